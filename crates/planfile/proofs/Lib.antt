@@ -4,3 +4,9 @@ pub mod Letters
 pub mod Walks
 pub mod Writes
 pub mod Accessors
+pub mod Bytes
+pub mod Rows
+pub mod Sections
+pub mod Sound
+pub mod Complete
+pub mod Layouts

@@ -6,6 +6,7 @@ use mathlib.Core.List.{List, [], _∷_, map}
 use native.Mathlib.Omega.{arith}
 use lib.Dec.{eqb}
 use lib.ListN.{length, getD, take, drop}
+use Rattle.std.proofs.shelf.Lists.{at-drop-more, at-drop-all}
 use Rattle.std.proofs.shelf.Tests.{cond-false}
 use Rattle.std.proofs.shelf.Ways.{tells}
 use Rattle.std.specs.declared.result.Result.{Result}
@@ -15,6 +16,8 @@ use Rattle.planfile.specs.declared.progress.FileKind.{FileKind}
 use Rattle.planfile.specs.declared.progress.Stage.{Stage}
 use Rattle.planfile.specs.declared.progress.Progress.{Progress}
 use Rattle.planfile.specs.declared.refusal.Fault.{Fault}
+use Rattle.planfile.specs.declared.refusal.Spot.{Spot}
+use Rattle.planfile.specs.Refusals.{faultAt}
 use Rattle.planfile.specs.Fields.{priceOf}
 use Rattle.planfile.specs.Progress.{rank, within, start}
 use Rattle.planfile.specs.Records.{Step, stepped}
@@ -65,6 +68,22 @@ walked-placed k i p q (r ∷ rs) h =
     let b = walked-placed k (i + 1) (t .0) q rs (t .2) in
     omega arith
 
+-- a loop over the records: what is left of them decides
+module _ (k : FileKind) (rs : List (List ℕ)) (i : ℕ) (p : Progress) (inv : walked k 0 start rs ≡ walked k i p (drop i rs)) where
+  more : i < length rs → walked k 0 start rs ≡ turned i (λ q. walked k (i + 1) q (drop (i + 1) rs)) (stepped k p (getD rs i []))
+  unfolding walked
+  more h = inv ∙ at-drop-more (walked k i p) rs i [] h
+
+  pub walk-on : (q : Progress) → i < length rs → stepped k p (getD rs i []) ≡ Ok q → walked k 0 start rs ≡ walked k (i + 1) q (drop (i + 1) rs)
+  walk-on q h e = more h ∙ ap (turned i (λ m. walked k (i + 1) m (drop (i + 1) rs))) e
+
+  pub walk-stop : (s : Spot) → i < length rs → stepped k p (getD rs i []) ≡ Err s → walked k 0 start rs ≡ Err (faultAt i s)
+  walk-stop s h e = more h ∙ ap (turned i (λ m. walked k (i + 1) m (drop (i + 1) rs))) e
+
+  pub walk-end : length rs ≡ i → walked k 0 start rs ≡ finished (length rs) p
+  unfolding walked
+  walk-end e = inv ∙ (at-drop-all (walked k i p) rs i (omega arith) ∙ ap (λ m. finished m p) (sym e))
+
 pub sections-are : (p : Progress) (rs us vs xs ys : List (List ℕ)) (m : Price)
     → us ≡ take (p .classes) rs
     → vs ≡ take (p .books) (drop (p .classes + p .weekends) rs)
@@ -85,7 +104,7 @@ good-size bs e = grind (arith, tells)
 
 -- what the code reads, put together
 module _ (k : FileKind) (bs : List ℕ) (rs : List (List ℕ)) (good : badSize bs ≡ false) (cut : rs ≡ records bs) where
-  whole : readFile k bs ≡ describing rs (walked k 0 start rs)
+  pub whole : readFile k bs ≡ describing rs (walked k 0 start rs)
   unfolding readFile
   whole = cond-false _ _ _ good ∙ ap (λ x. describing x (walked k 0 start x)) (sym cut)
 

@@ -5,3 +5,4 @@ pub mod Records
 pub mod Description
 pub mod Reading
 pub mod Lines
+pub mod Laws

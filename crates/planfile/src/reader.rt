@@ -4,6 +4,7 @@ ghost use Prim.Native.Nat.{_+_, _≤_};
 ghost use lib.ListN.{length};
 ghost use Rattle.planfile.specs.Progress.{start as startOf};
 ghost use Rattle.std.specs.shelf.Maps.{nth};
+ghost use Rattle.planfile.specs.Laws.{Tells};
 ghost use Rattle.planfile.specs.Reading.{secondNumber, boundOf, quoteOf, countsOf, finished, walked, body, sectioned, described, answered, badSize, readFile};
 use crate::fields::Price;
 use crate::fields::PriceDebug;
@@ -204,9 +205,11 @@ fn is_bad_size(file: &[u8]) -> bool
     len == 0 || len % 16 != 0 || len > 35088
 }
 
-// What the file describes, or its first fault.
+// What the file describes, or its first fault: a file is accepted exactly when it is the layout of a proper
+// description, and what is answered is that one, of which there is no other.
 pub fn read(kind: FileKind, file: &[u8]) -> Result<PlanFile<'_>, Fault>
-    ensures { λ r. ⌜ answered r ≡ readFile kind (now (file .entry)) ⌝ }
+    ensures answer { λ r. ⌜ answered r ≡ readFile kind (now (file .entry)) ⌝ }
+    ensures tells { λ r. ⌜ Tells kind (now (file .entry)) (answered r) ⌝ }
 {
     if is_bad_size(file) {
         return Err(Fault {
