@@ -1,25 +1,24 @@
 -- Numbers as bytes, the low byte first, there and back.
-use Prim.Native.Nat.{ℕ, zero, suc, _+_, _-_, _*_, _/_, _%_, _^_, _<_, _≤_}
-use mathlib.Core.Path.{_≡_, refl, sym, _∙_, ap, subst}
-use mathlib.Core.Bool.{Bool, true, false, cond}
+use Prim.Native.Nat.{ℕ, zero, suc, _+_, _*_, _/_, _%_, _^_, _<_, _≤_}
+use mathlib.Core.Path.{_≡_, refl, sym, _∙_, ap}
+use mathlib.Core.Bool.{cond}
 use mathlib.Core.List.{List, [], _∷_, _++_}
 use native.Mathlib.Omega.{arith}
 use lib.Dec.{eqb}
-use lib.IntN.{ℤ, pos, negsuc, natAbs}
+use lib.IntN.{ℤ, pos}
 use lib.ListN.{length, getD, take, drop, replicate}
 use mir.Val.{SFits, toZ, ofZ}
 use mir.Facts.{fits-ofZ, sfits-toZ}
 use mir.Syntax.{w32, w64}
 use Rattle.std.proofs.shelf.Lists.{drop-more, drop-all, getD-take, getD-drop}
-use Rattle.std.proofs.shelf.Signed.{toZ-ofZ, ofZ-toZ, ints}
+use Rattle.std.proofs.shelf.Signed.{toZ-ofZ, ofZ-toZ}
 use Rattle.std.proofs.shelf.Ways.{tells}
 use Rattle.std.specs.shelf.Lists.{All}
 use Rattle.std.specs.declared.option.Option.{Option}
 use Rattle.std.specs.declared.option.Option.the-variants.{Some, None}
 use Rattle.planfile.specs.declared.fields.Price.{Price}
-use Rattle.planfile.specs.declared.reader.Quote.{Quote}
 use Rattle.planfile.specs.Fields.{nonzero, strain, money, priceOf}
-use Rattle.planfile.specs.Description.{lowFirst, priceBytes, quoteRow, limitRow}
+use Rattle.planfile.specs.Description.{lowFirst, priceBytes}
 
 -- the number that bytes make
 abbrev value : List ℕ → ℕ
@@ -95,7 +94,7 @@ module _ (r : List ℕ) (long : length r ≡ 16) where
         let b8 = bytes 8 in let b9 = bytes 9 in let b10 = bytes 10 in let b11 = bytes 11 in
         let b12 = bytes 12 in let b13 = bytes 13 in let b14 = bytes 14 in let b15 = bytes 15 in
         let n : ℕ = getD r 8 0 + getD r 9 0 * 256 + getD r 10 0 * 65536 + getD r 11 0 * 16777216
-              + getD r 12 0 * 4294967296 + getD r 13 0 * 1099511627776 + getD r 14 0 * 281474976710656 + getD r 15 0 * 72057594037927936 in
+        + getD r 12 0 * 4294967296 + getD r 13 0 * 1099511627776 + getD r 14 0 * 281474976710656 + getD r 15 0 * 72057594037927936 in
         let e : n ≡ value (getD r 8 0 ∷ getD r 9 0 ∷ getD r 10 0 ∷ getD r 11 0 ∷ getD r 12 0 ∷ getD r 13 0 ∷ getD r 14 0 ∷ getD r 15 0 ∷ []) = omega arith in
         ap (lowFirst 8) (ofZ-toZ w64 n (omega arith) ∙ e) ∙ low-value _ (b8, (b9, (b10, (b11, (b12, (b13, (b14, (b15, tt))))))))
 
@@ -112,8 +111,8 @@ four-sum : (x : ℕ) → x < 2 ^ 32 → x % 256 + x / 256 % 256 * 256 + x / 256 
 four-sum x h = omega arith
 
 eight-sum : (x : ℕ) → x < 2 ^ 64 → x % 256 + x / 256 % 256 * 256 + x / 256 / 256 % 256 * 65536 + x / 256 / 256 / 256 % 256 * 16777216
-  + x / 256 / 256 / 256 / 256 % 256 * 4294967296 + x / 256 / 256 / 256 / 256 / 256 % 256 * 1099511627776
-  + x / 256 / 256 / 256 / 256 / 256 / 256 % 256 * 281474976710656 + x / 256 / 256 / 256 / 256 / 256 / 256 / 256 % 256 * 72057594037927936 ≡ x
+    + x / 256 / 256 / 256 / 256 % 256 * 4294967296 + x / 256 / 256 / 256 / 256 / 256 % 256 * 1099511627776
+    + x / 256 / 256 / 256 / 256 / 256 / 256 % 256 * 281474976710656 + x / 256 / 256 / 256 / 256 / 256 / 256 / 256 % 256 * 72057594037927936 ≡ x
 eight-sum x h = omega arith
 
 priced : (p : Price) (s m : ℤ) → s ≡ p .strain → m ≡ p .money → _≡_ {A = Price} (record { strain = s; money = m }) p

@@ -1,12 +1,12 @@
 -- A file is accepted exactly when it is the layout of a proper description, and that is what is answered.
-use Prim.Native.Nat.{ℕ, zero, suc, _+_, _-_, _*_, _/_, _%_, _<_, _≤_}
+use Prim.Native.Nat.{ℕ, zero, suc, _+_, _*_, _/_, _<_, _≤_}
 use mathlib.Core.Path.{_≡_, refl, sym, _∙_, ap, subst}
-use mathlib.Core.Bool.{Bool, true, false, cond}
-use mathlib.Core.List.{List, [], _∷_, _++_, map}
-use mathlib.Core.Logic.{_⊎_, inl, inr, ⊎-elim}
+use mathlib.Core.Bool.{false}
+use mathlib.Core.List.{List, [], _∷_}
+use mathlib.Core.Logic.{⊎-elim}
 use native.Mathlib.Nat.{mul-le-mul, add-mul, one-mul}
 use native.Mathlib.Omega.{arith}
-use lib.ListN.{length, getD}
+use lib.ListN.{length}
 use Rattle.std.proofs.shelf.Bits.{mul-add-lt}
 use Rattle.std.proofs.shelf.Elements.{all-weaker, all-append, all-map}
 use Rattle.std.proofs.shelf.Lists.{length-append, length-map}
@@ -18,13 +18,11 @@ use Rattle.std.specs.declared.result.Result.{Result}
 use Rattle.std.specs.declared.result.Result.the-variants.{Ok, Err}
 use Rattle.planfile.specs.declared.progress.FileKind.{FileKind}
 use Rattle.planfile.specs.declared.progress.Progress.{Progress}
-use Rattle.planfile.specs.declared.reader.Bound.{Bound}
-use Rattle.planfile.specs.declared.reader.Quote.{Quote}
 use Rattle.planfile.specs.declared.refusal.Fault.{Fault}
 use Rattle.planfile.specs.Progress.{start}
-use Rattle.planfile.specs.Description.{Description, Proper, Before, Rising, BoundStands, QuoteStands, classRow, weekendRow, bookRow, boundRow, quoteRow, limitRow, numbered, weekendRows, rows, layout}
+use Rattle.planfile.specs.Description.{Description, Proper, Before, Rising, BoundStands, QuoteStands, classRow, bookRow, boundRow, quoteRow, numbered, weekendRows, rows, layout}
 use Rattle.planfile.specs.Reading.{records, walked, sectioned, describing, badSize, readFile}
-use Rattle.planfile.specs.Laws.{IsThe, Tells}
+use Rattle.planfile.specs.Laws.{Tells}
 use Rattle.planfile.proofs.Bytes.{Bytes}
 use Rattle.planfile.proofs.Walks.{good-size, whole, read-ok}
 use Rattle.planfile.proofs.Sections.{length-numbered, length-weekends, sections-back, cut-whole, cut-joined, joined-length, joined-cut}
@@ -42,8 +40,8 @@ few f g m n [] s r i l e = omega arith
 few f g m n (x ∷ xs) s r i l e =
     let here = l .0 in
     let t : length xs + (f x * n + g x + 1) ≤ n * m
-          = few f g m n xs (f x * n + g x + 1) (r .1) (i .1) (all-weaker _ _ (λ y b. after n (f x) (g x) (f y) (g y) (i .0 .1) b) xs (r .0))
-            (let k = mul-add-lt (f x) n (g x) m (i .0 .0) (i .0 .1) in omega arith) in
+    = few f g m n xs (f x * n + g x + 1) (r .1) (i .1) (all-weaker _ _ (λ y b. after n (f x) (g x) (f y) (g y) (i .0 .1) b) xs (r .0))
+    (let k = mul-add-lt (f x) n (g x) m (i .0 .0) (i .0 .1) in omega arith) in
     omega arith
 
 from-none : {X : Type 0} (f : X → ℕ) (xs : List X) → All (λ x. 0 ≤ f x) xs
@@ -55,16 +53,16 @@ module _ (k : FileKind) (d : Description) (h : Proper k d) where
   few-bounds =
       let c = h .fewClasses in let w = h .fewWeekends in
       let t = few (λ b. b .weekend) (λ b. b .class) 16 8 (d .bounds) 0 (h .boundsRise)
-            (all-weaker _ _ (λ b (s : BoundStands (d .weekends) (length (d .parents)) b). (omega (arith, s .weekend), omega (arith, s .class))) (d .bounds) (h .bounds))
-            (from-none (λ b. b .weekend * 8 + b .class) (d .bounds)) (omega arith) in
+      (all-weaker _ _ (λ b (s : BoundStands (d .weekends) (length (d .parents)) b). (omega (arith, s .weekend), omega (arith, s .class))) (d .bounds) (h .bounds))
+      (from-none (λ b. b .weekend * 8 + b .class) (d .bounds)) (omega arith) in
       omega arith
 
   few-quotes : length (d .quotes) ≤ 1920
   few-quotes =
       let b = h .fewBooks in let w = h .fewWeekends in
       let t = few (λ q. q .book) (λ q. q .weekend) 120 16 (d .quotes) 0 (h .quotesRise)
-            (all-weaker _ _ (λ q (s : QuoteStands k (length (d .classes)) (d .weekends) q). (omega (arith, s .book), omega (arith, s .weekend))) (d .quotes) (h .quotes))
-            (from-none (λ q. q .book * 16 + q .weekend) (d .quotes)) (omega arith) in
+      (all-weaker _ _ (λ q (s : QuoteStands k (length (d .classes)) (d .weekends) q). (omega (arith, s .book), omega (arith, s .weekend))) (d .quotes) (h .quotes))
+      (from-none (λ q. q .book * 16 + q .weekend) (d .quotes)) (omega arith) in
       omega arith
 
   count-rows : length (rows d) ≡ length (d .parents) + (d .weekends + (length (d .classes) + (length (d .bounds) + (length (d .quotes) + 1))))
@@ -129,15 +127,19 @@ laid-out k bs d bytes e =
     let l : length bs ≡ 16 * (length bs / 16) = omega (arith, g .1) in
     let r = describing-ok rs (walked k 0 start rs) d (sym (whole k bs rs good refl) ∙ e) in
     let f : Found k (r .0) rs = sound k 0 start (r .0) rs [] 0 [] [] [] (draft-start k) (cut-whole (length bs / 16) bs l bytes) (r .1) in
-    let same : f .d ≡ d = sym (sections-back k (r .0) (f .d) (f .proper) (f .counted)) ∙ (ap (sectioned (r .0)) (f .laid) ∙ r .2) in
-    ( subst (Proper k) same (f .proper)
-    , ap (λ x. joined (λ r. r) (rows x)) (sym same) ∙ (ap (joined (λ r. r)) (f .laid) ∙ cut-joined (length bs / 16) bs l))
+    let same : f .d ≡ d = sym (sections-back k (r .0) (f .d) (f .proper) (f .counted)) ∙ (ap (sectioned (r .0)) (f .laid) ∙ r .2) in (
+      subst (Proper k) same (f .proper),
+      ap (λ x. joined (λ r. r) (rows x)) (sym same) ∙ (ap (joined (λ r. r)) (f .laid) ∙ cut-joined (length bs / 16) bs l),
+    )
 
 -- both together: what an answer tells
 pub tells-all : (k : FileKind) (bs : List ℕ) (x : Result Description Fault) → Bytes bs → x ≡ readFile k bs → Tells k bs x
 tells-all k bs (Ok d) bytes e =
     let l = laid-out k bs d bytes (sym e) in
-    record { proper = l .0; laid = l .1
-           ; only = λ o po lo. let a : readFile k bs ≡ Ok o = ap (readFile k) (sym lo) ∙ reads-back k o po in let b = e ∙ a in cc }
+    record {
+      proper = l .0;
+      laid = l .1;
+      only = λ o po lo. let a : readFile k bs ≡ Ok o = ap (readFile k) (sym lo) ∙ reads-back k o po in let b = e ∙ a in cc;
+    }
 tells-all k bs (Err f) bytes e = λ d pd ld.
     let a : readFile k bs ≡ Ok d = ap (readFile k) (sym ld) ∙ reads-back k d pd in let b = e ∙ a in let z : _≡_ {A = ℕ} 0 1 = cc in omega arith

@@ -1,11 +1,10 @@
 -- An accepted record is one of the six kinds, and passed the tests of its kind.
 use Prim.Native.Nat.{ℕ, _+_}
-use mathlib.Core.Path.{_≡_, refl, sym, _∙_, ap}
+use mathlib.Core.Path.{_≡_, refl}
 use mathlib.Core.Bool.{Bool, true, false, cond}
 use mathlib.Core.List.{List}
 use mathlib.Core.Logic.{_⊎_, inl, inr, ⊎-elim}
 use native.Mathlib.Omega.{arith}
-use lib.Dec.{eqb}
 use lib.ListN.{getD, take, drop}
 use Rattle.std.proofs.shelf.Tests.{eqb-true}
 use Rattle.std.specs.declared.result.Result.the-variants.{Ok, Err}

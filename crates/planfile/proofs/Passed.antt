@@ -1,10 +1,9 @@
 -- What an accepted record tells: every test was passed.
-use Prim.Native.Nat.{ℕ, _+_, _<_, _≤_, max}
-use mathlib.Core.Path.{_≡_, refl, sym, _∙_, ap}
-use mathlib.Core.Bool.{Bool, true, false, cond, not, _&&_}
+use Prim.Native.Nat.{ℕ, _<_, _≤_, max}
+use mathlib.Core.Path.{_≡_, refl}
+use mathlib.Core.Bool.{Bool, true, false, not}
 use mathlib.Core.List.{List}
 use native.Mathlib.Omega.{arith}
-use lib.Dec.{eqb, ltb, leb}
 use lib.IntN.{natAbs}
 use Rattle.std.proofs.shelf.Tests.{not-false, and-parts, eqb-true, ltb-true, ltb-false, leb-true}
 use Rattle.std.specs.declared.option.Option.the-variants.{Some, None}

@@ -1,18 +1,17 @@
 -- One record: what an accepted one looks like, and that a laid out one is accepted.
-use Prim.Native.Nat.{ℕ, zero, suc, _+_, _-_, _<_, _≤_, max}
+use Prim.Native.Nat.{ℕ, _+_, _-_, _<_, _≤_, max}
 use mathlib.Core.Path.{_≡_, refl, sym, _∙_, ap, subst}
-use mathlib.Core.Bool.{Bool, true, false, cond, not, _&&_}
-use mathlib.Core.List.{List, [], _∷_, _++_}
+use mathlib.Core.Bool.{Bool, true, false, not}
+use mathlib.Core.List.{List, _∷_, _++_}
 use native.Mathlib.Omega.{arith}
-use lib.Dec.{eqb, ltb, leb}
+use lib.Dec.{ltb}
 use lib.IntN.{ℤ, pos, negsuc, natAbs}
 use lib.ListN.{length, getD, take, drop, replicate}
 use mir.Val.{SFits, ofZ}
 use mir.Facts.{sfits-lit}
 use mir.Syntax.{w32, w64}
-use Rattle.std.proofs.shelf.Lists.{length-drop, length-take}
-use Rattle.std.proofs.shelf.Tests.{eq-eqb, lt-ltb, le-ltb, le-leb, and-from, not-from-true}
-use Rattle.std.proofs.shelf.Ways.{tells}
+use Rattle.std.proofs.shelf.Lists.{length-drop}
+use Rattle.std.proofs.shelf.Tests.{eq-eqb, lt-ltb, le-ltb, le-leb, and-from}
 use Rattle.std.specs.declared.option.Option.{Option}
 use Rattle.std.specs.declared.option.Option.the-variants.{Some, None}
 use Rattle.std.specs.declared.result.Result.the-variants.{Ok, Err}
@@ -27,11 +26,11 @@ use Rattle.planfile.specs.declared.refusal.Refusal.{Refusal}
 use Rattle.planfile.specs.declared.refusal.Refusal.the-variants.{Letter, Number, Padding, Bounds, Weight}
 use Rattle.planfile.specs.Fields.{nonzero, priceOf, spareBytes, strain}
 use Rattle.planfile.specs.Progress.{rank, within, before, place}
-use Rattle.planfile.specs.Records.{Step, refuse, zeros, stepped, classLine, weekendLine, bookLine, boundLine, quoteLine, limitLine, withClass, withWeekend, withBook, withBound, withQuote, withLimit}
+use Rattle.planfile.specs.Records.{Step, refuse, stepped, classLine, weekendLine, bookLine, boundLine, quoteLine, limitLine, withClass, withWeekend, withBook, withBound, withQuote, withLimit}
 use Rattle.planfile.specs.Description.{classRow, weekendRow, bookRow, boundRow, quoteRow, limitRow, lowFirst, priceBytes, Fitting, BoundStands, QuoteStands}
 use Rattle.planfile.specs.Reading.{boundOf, quoteOf}
 use Rattle.planfile.proofs.Bytes.{Bytes, none-zeros, zeros-none, one-number, two-numbers, three-numbers, four-numbers, price-bytes, price-back, zero-at, no-strain, strain-fits}
-use Rattle.planfile.proofs.Passed.{ClassOk, WeekendOk, BookOk, BoundOk, QuoteOk, LimitOk}
+use Rattle.planfile.proofs.Passed.{ClassOk, WeekendOk, BookOk, BoundOk}
 
 -- the bytes that must be zero are zero
 padding : (r : List ℕ) (i n k : ℕ) → length r ≡ 16 → 16 - i ≡ n → nonzero k (drop i r) ≡ None → drop i r ≡ replicate n 0
@@ -134,7 +133,7 @@ book-step k p n x low high e few class =
     (pass Number 2 _ _ _ (lt-ltb _ _ class) refl)))
 
 pub bound-step : (k : FileKind) (p : Progress) (b : Bound) → 3 ≤ rank (p .stage) → rank (p .stage) ≤ 4 → BoundStands (p .weekends) (p .classes) b
-  → before (place (b .weekend) (b .class)) (p .«next_bound») ≡ false → stepped k p (boundRow b) ≡ Ok (withBound p (b .weekend) (b .class))
+    → before (place (b .weekend) (b .class)) (p .«next_bound») ≡ false → stepped k p (boundRow b) ≡ Ok (withBound p (b .weekend) (b .class))
 unfolding stepped boundLine
 bound-step k p b low high h rises =
     pass Letter 0 _ _ _ (may 3 4 (p .stage) low high)
@@ -171,7 +170,7 @@ pub limit-price : (k : FileKind) (p : Price) → natAbs (p .money) ≤ 100000000
 limit-price k p l h = price-back 76 0 0 p (strain-light k p h) (money-light (p .money) l)
 
 pub quote-step : (k : FileKind) (p : Progress) (q : Quote) → 3 ≤ rank (p .stage) → rank (p .stage) ≤ 5 → QuoteStands k (p .books) (p .weekends) q
-  → before (place (q .book) (q .weekend)) (p .«next_quote») ≡ false → stepped k p (quoteRow q) ≡ Ok (withQuote p (q .book) (q .weekend))
+    → before (place (q .book) (q .weekend)) (p .«next_quote») ≡ false → stepped k p (quoteRow q) ≡ Ok (withQuote p (q .book) (q .weekend))
 unfolding stepped quoteLine
 quote-step k p q low high h rises =
     let e = quote-price k (p .books) (p .weekends) q h in
@@ -184,7 +183,7 @@ quote-step k p q low high h rises =
     (spared Weight 8 _ _ _ (ap (λ x. ltb 1000000000 (natAbs (x .money))) e ∙ le-ltb _ _ (h .money)) refl))))))
 
 pub limit-step : (k : FileKind) (p : Progress) (m : Price) → 3 ≤ rank (p .stage) → rank (p .stage) ≤ 5 → natAbs (m .money) ≤ 1000000000000 → Fitting k m
-  → stepped k p (limitRow m) ≡ Ok (withLimit p)
+    → stepped k p (limitRow m) ≡ Ok (withLimit p)
 unfolding stepped limitLine
 limit-step k p m low high light fits =
     pass Letter 0 _ _ _ (may 3 5 (p .stage) low high)

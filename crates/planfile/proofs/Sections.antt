@@ -1,21 +1,20 @@
 -- The records of a description: put together, taken apart again, and cut out of the file's bytes.
-use Prim.Native.Nat.{ℕ, zero, suc, _+_, _-_, _*_, _/_, _%_, _<_, _≤_}
+use Prim.Native.Nat.{ℕ, zero, suc, _+_, _*_, _<_, _≤_}
 use mathlib.Core.Path.{_≡_, refl, sym, _∙_, ap, subst}
 use mathlib.Core.List.{List, [], _∷_, _++_, map, append-assoc}
 use mathlib.Core.Logic.{⊎-elim}
 use native.Mathlib.Omega.{arith}
 use lib.ListN.{length, getD, take, drop}
-use Rattle.std.proofs.shelf.Lists.{length-append, length-map, length-take, length-drop, take-at, drop-at, drop-drop, take-append-drop, append-nil, map-push, getD-take, getD-drop, getD-past, getD-at, nil-from-length}
+use Rattle.std.proofs.shelf.Lists.{length-append, length-map, length-take, length-drop, take-at, drop-at, take-append-drop, getD-take, getD-drop, getD-past, getD-at, nil-from-length}
 use Rattle.std.proofs.shelf.Tests.{cases-lt}
 use Rattle.std.specs.Vectors.{chunked}
 use Rattle.std.specs.shelf.Lists.{All, joined}
-use Rattle.planfile.specs.declared.fields.Price.{Price}
 use Rattle.planfile.specs.declared.progress.FileKind.{FileKind}
 use Rattle.planfile.specs.declared.progress.Progress.{Progress}
 use Rattle.planfile.specs.declared.reader.Bound.{Bound}
 use Rattle.planfile.specs.declared.reader.Quote.{Quote}
 use Rattle.planfile.specs.Fields.{priceOf}
-use Rattle.planfile.specs.Description.{Description, classRow, weekendRow, bookRow, boundRow, quoteRow, limitRow, numbered, weekendRows, rows, QuoteStands, Fitting, Proper}
+use Rattle.planfile.specs.Description.{Description, classRow, weekendRow, bookRow, boundRow, quoteRow, limitRow, numbered, weekendRows, rows, QuoteStands, Proper}
 use Rattle.planfile.specs.Reading.{sectioned, secondNumber, boundOf, quoteOf, body}
 use Rattle.planfile.proofs.Bytes.{Bytes}
 use Rattle.planfile.proofs.Rows.{quote-price, limit-price}
@@ -110,9 +109,9 @@ sections-back k p d proper counts =
     (ap (λ t. map secondNumber (take (p .books) (drop (p .classes + p .weekends) t))) e1 ∙ (ap (map secondNumber) (middle (C ++ W) B (N ++ (Q ++ L)) _ _ cw b) ∙ books-back 0 (d .classes)))
     (ap (λ t. map boundOf (take (p .bounds) (drop (p .classes + p .weekends + p .books) t))) (e1 ∙ e2) ∙ (ap (map boundOf) (middle ((C ++ W) ++ B) N (Q ++ L) _ _ cwb n) ∙ bounds-back (d .bounds)))
     (ap (λ t. map quoteOf (take (p .quotes) (drop (p .classes + p .weekends + p .books + p .bounds) t))) (e1 ∙ (e2 ∙ e3))
-      ∙ (ap (map quoteOf) (middle (((C ++ W) ++ B) ++ N) Q L _ _ cwbn q) ∙ quotes-back k _ _ (d .quotes) (proper .quotes)))
+    ∙ (ap (map quoteOf) (middle (((C ++ W) ++ B) ++ N) Q L _ _ cwbn q) ∙ quotes-back k _ _ (d .quotes) (proper .quotes)))
     (ap (λ t. priceOf (getD t (body p) [])) (e1 ∙ (e2 ∙ (e3 ∙ e4)))
-      ∙ (ap priceOf (getD-at ((((C ++ W) ++ B) ++ N) ++ Q) (limitRow (d .limit)) [] [] (body p) cwbnq) ∙ limit-price k (d .limit) (proper .limit) (proper .limitFitting)))
+    ∙ (ap priceOf (getD-at ((((C ++ W) ++ B) ++ N) ++ Q) (limitRow (d .limit)) [] [] (body p) cwbnq) ∙ limit-price k (d .limit) (proper .limit) (proper .limitFitting)))
 
 -- a record of 16 bytes
 abbrev pub Whole : List ℕ → Type 0
@@ -121,11 +120,14 @@ Whole r = (length r ≡ 16) × Bytes r
 -- records cut out of bytes, and put together again
 pub cut-whole : (k : ℕ) (bs : List ℕ) → length bs ≡ 16 * k → Bytes bs → All Whole (chunked 16 k bs)
 cut-whole zero bs e h = tt
-cut-whole (suc k) bs e h =
-    ( (length-take 16 bs ∙ omega arith
-      , λ i. ⊎-elim (λ (l : i < 16). subst (λ x. x < 256) (sym (getD-take 16 bs i 0 l)) (h i))
-          (λ (g : 16 ≤ i). subst (λ x. x < 256) (sym (getD-past (take 16 bs) i 0 (rw length-take (omega arith)))) (omega arith)) (cases-lt i 16))
-    , cut-whole k (drop 16 bs) (length-drop 16 bs ∙ omega arith) (λ i. subst (λ x. x < 256) (sym (getD-drop 16 bs i 0)) (h (16 + i))))
+cut-whole (suc k) bs e h = (
+  (
+    length-take 16 bs ∙ omega arith,
+    λ i. ⊎-elim (λ (l : i < 16). subst (λ x. x < 256) (sym (getD-take 16 bs i 0 l)) (h i))
+        (λ (g : 16 ≤ i). subst (λ x. x < 256) (sym (getD-past (take 16 bs) i 0 (rw length-take (omega arith)))) (omega arith)) (cases-lt i 16),
+  ),
+  cut-whole k (drop 16 bs) (length-drop 16 bs ∙ omega arith) (λ i. subst (λ x. x < 256) (sym (getD-drop 16 bs i 0)) (h (16 + i))),
+)
 
 pub cut-joined : (k : ℕ) (bs : List ℕ) → length bs ≡ 16 * k → joined (λ r. r) (chunked 16 k bs) ≡ bs
 cut-joined zero bs e = sym (nil-from-length bs (e ∙ omega arith))

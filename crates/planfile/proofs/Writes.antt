@@ -1,5 +1,5 @@
 -- One write after another.
-use Prim.Native.Nat.{ℕ, _+_, _-_, _/_, _^_, _≤_, _<_, suc}
+use Prim.Native.Nat.{ℕ, _+_, _-_, _/_, _^_, _≤_, _<_}
 use mathlib.Core.Path.{_≡_, refl, sym, _∙_, ap, subst}
 use mathlib.Core.Bool.{false}
 use mathlib.Core.List.{List, [], _∷_, _++_, append-assoc}
@@ -11,10 +11,10 @@ use Rattle.std.proofs.shelf.Decimals.{length-decimal-le}
 use native.Mathlib.Numerals.{add-one}
 use borrow.Rule.Slice.PartMut.{putMid}
 use lib.ListN.{length, take, drop, set}
-use Rattle.std.proofs.shelf.Lists.{length-append, length-take, length-drop, length-set, set-split, take-at, drop-at, drop-drop, take-append-le}
+use Rattle.std.proofs.shelf.Lists.{length-append, length-take, length-drop, length-set, set-split, take-at, drop-at, drop-drop}
 use Rattle.std.proofs.shelf.Tests.{le-ltb, cond-false}
 use Rattle.std.specs.declared.result.Result.{Result}
-use Rattle.std.specs.declared.result.Result.the-variants.{Ok, Err}
+use Rattle.std.specs.declared.result.Result.the-variants.{Ok}
 use Rattle.planfile.specs.declared.progress.FileKind.the-variants.{Money}
 use Rattle.planfile.specs.declared.refusal.Fault.{Fault}
 use Rattle.planfile.specs.Description.{Description}

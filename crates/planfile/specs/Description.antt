@@ -1,11 +1,11 @@
 -- What a plan file describes, and how a description is laid out in bytes.
 -- A reader must believe this page and the numbers in it; everything else about the file is proved against it.
-use Prim.Native.Nat.{ℕ, zero, suc, _+_, _*_, _/_, _%_, _<_, _≤_, max}
+use Prim.Native.Nat.{ℕ, zero, suc, _+_, _/_, _%_, _<_, _≤_, max}
 use mathlib.Core.Path.{_≡_}
 use mathlib.Core.Logic.{_⊎_}
 use mathlib.Core.List.{List, [], _∷_, _++_, map}
 use lib.IntN.{pos, natAbs}
-use lib.ListN.{length, getD, replicate}
+use lib.ListN.{length, replicate}
 use mir.Val.{ofZ, SFits}
 use mir.Syntax.{w32, w64}
 use Rattle.std.specs.shelf.Lists.{All, joined}

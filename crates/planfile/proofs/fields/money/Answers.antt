@@ -1,10 +1,6 @@
 use borrow.Author.Needs.{needs}
-use native.Mathlib.Omega.{arith}
-use mathlib.Core.Path.{_≡_, _∙_, sym, ap}
-use Prim.Native.Nat.{_+_, _*_, _-_}
-use lib.ListN.{getD}
-use lib.IntN.{ℤ}
-use mir.Val.{SFits, toZ}
+use mathlib.Core.Path.{_∙_}
+use mir.Val.{SFits}
 use mir.Syntax.{w64}
 use Rattle.std.proofs.shelf.Signed.{toZ-ofZ}
 use Rattle.planfile.specs.Fields.{money}

@@ -21,7 +21,7 @@ use Rattle.planfile.proofs.reader.read.Needs as need
 
 -- an answer that is the defined one tells what it should
 told : (k : FileKind) (bs : List ℕ) (r : Result PlanFile Fault) → ((i : ℕ) → Fits w8 (getD bs i 0)) → answered r ≡ readFile k bs
-  → record { answer : answered r ≡ readFile k bs; tells : Tells k bs (answered r) }
+    → record { answer : answered r ≡ readFile k bs; tells : Tells k bs (answered r) }
 told k bs r bytes e = record { answer = e; tells = tells-all k bs (answered r) (λ i. bytes i .fits) e }
 
 pub returns-then-is-bad-size : need.returns-then-is-bad-size

@@ -17,9 +17,10 @@ returns-in-Err c =
     ∙ sym (walk-stop (c .args .kind) (c .args .rows .now) (c .loop-i .i) (c .loop-i .so-far) (c .loop-i .inv .0) (c .in-Err .spot) (c .loop-i-test .taken) (sym (c .in-Err .ensures tt)))
 
 pub loop-i-again : need.loop-i-again
-loop-i-again c =
-    ( walk-on (c .args .kind) (c .args .rows .now) (c .loop-i .i) (c .loop-i .so-far) (c .loop-i .inv .0) (c .in-Ok .next) (c .loop-i-test .taken) (sym (c .in-Ok .ensures tt))
-    , step-placed (c .args .kind) (c .loop-i .so-far) (c .in-Ok .next) (getD (c .args .rows .now) (c .loop-i .i) []) (sym (c .in-Ok .ensures tt)) ∙ ap (λ n. n + 1) (c .loop-i .inv .1))
+loop-i-again c = (
+  walk-on (c .args .kind) (c .args .rows .now) (c .loop-i .i) (c .loop-i .so-far) (c .loop-i .inv .0) (c .in-Ok .next) (c .loop-i-test .taken) (sym (c .in-Ok .ensures tt)),
+  step-placed (c .args .kind) (c .loop-i .so-far) (c .in-Ok .next) (getD (c .args .rows .now) (c .loop-i .i) []) (sym (c .in-Ok .ensures tt)) ∙ ap (λ n. n + 1) (c .loop-i .inv .1),
+)
 
 pub returns : need.returns
 returns c = c .finish .ensures ∙ sym (walk-end (c .args .kind) (c .args .rows .now) (c .loop-i .i) (c .loop-i .so-far) (c .loop-i .inv .0) (omega arith))

@@ -1,4 +1,3 @@
-use mathlib.Core.Path.{refl}
 use Rattle.std.proofs.shelf.Lists.{length-map}
 use Rattle.planfile.proofs.reader.PlanFile.counts.Needs as need
 
