@@ -1,0 +1,5 @@
+pub mod Meaning
+pub mod Tables
+pub mod Spans
+pub mod Strikes
+pub mod Ranges
