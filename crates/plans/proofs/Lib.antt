@@ -1,0 +1,13 @@
+pub mod Climbing
+pub mod Counting
+pub mod Duality
+pub mod Below
+pub mod Verdicts
+pub mod Listing
+pub mod Keeping
+pub mod Bests
+pub mod Padding
+pub mod Straight
+pub mod Rereading
+pub mod Coined
+pub mod Posing

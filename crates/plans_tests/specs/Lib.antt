@@ -1,0 +1,3 @@
+-- A small source, and board Z tried in full.
+pub mod Six
+pub mod BoardZ
