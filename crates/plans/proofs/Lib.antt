@@ -7,6 +7,7 @@ pub mod Listing
 pub mod Keeping
 pub mod Bests
 pub mod Padding
+pub mod Classing
 pub mod Straight
 pub mod Rereading
 pub mod Coined

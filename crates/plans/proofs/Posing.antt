@@ -1,6 +1,6 @@
 -- What a source, a roster and bounds put is in range; and heads in coins are read as whole numbers. Assumes nothing.
 use mathlib.Core.Path.{_≡_, refl, ap, _∙_}
-use mathlib.Core.Bool.{_&&_}
+use mathlib.Core.Bool.{Bool, true, false, cond, _&&_}
 use mathlib.Core.List.{List}
 use Prim.Native.Nat.{ℕ, _+_, _*_, _≤_, _<_}
 use native.Mathlib.Nat.{mul-le-mul}
@@ -35,6 +35,14 @@ lower-small b = bound-small (b .lower) (λ i l. let s = b .straight i l in omega
 
 upper-small : (b : Bounds) (w c : ℕ) → bound-at (b .upper) w c ≤ 120
 upper-small b = bound-small (b .upper) (λ i l. b .straight i l .1)
+
+-- bounds do not cross, wherever they are read
+pub bounds-straight : (b : Bounds) (w c : ℕ) → bound-at (b .lower) w c ≤ bound-at (b .upper) w c
+bounds-straight b w c = go (ltb w 16 && ltb c 8) refl
+  where
+    go : (t : Bool) → (ltb w 16 && ltb c 8) ≡ t → cond t (getD (b .lower) (w * 8 + c) 0) 0 ≤ cond t (getD (b .upper) (w * 8 + c) 0) 0
+    go true e = let parts = and-parts (ltb w 16) (ltb c 8) e in b .straight (w * 8 + c) (omega (arith, ltb-true w 16 (parts .0), ltb-true c 8 (parts .1))) .0
+    go false e = omega arith
 
 pub posed-sound : {V : Type 0} (K : Kind V) → Posed-sound K
 posed-sound K source roster bounds limit books weekends quotes light = record {

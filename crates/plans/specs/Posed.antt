@@ -21,9 +21,11 @@ pub record Meaning (V : Type 0) : Type 0 where
   pub weekends : ℕ
   pub quote : ℕ → ℕ → Option V
 
+-- the same, of a source in code
 abbrev pub meaning : {S V : Type 0} → Ghosts S V → S → Meaning V
 meaning source s = record { books = source .count s; weekends = source .weeks s; quote = source .table s }
 
+-- the problem that they put together
 abbrev pub problem : {V : Type 0} → Meaning V → Roster → Bounds → V → Problem V
 problem source roster bounds limit = record {
   books = source .books;
@@ -46,7 +48,7 @@ module _ {V : Type 0} (K : Kind V) where
   abbrev pub bounds-ceiling : ℕ → Bounds → List V → ℕ → ℕ → V
   bounds-ceiling classes bounds sheet w c = ceiling-of K (bound-at (bounds .lower) w c) (bound-at (bounds .upper) w c) (entries K classes sheet w c)
 
-  -- what an assignment comes to, as a list of weekends
+  -- what an assignment comes to, where place b of a list is the weekend of book b
   abbrev pub assignment-total : Meaning V → List ℕ → V
   assignment-total source assignment = Sum K (source .books) (λ b. orNone K (source .quote b (at assignment b)))
 

@@ -48,6 +48,10 @@ module _ {V : Type 0} (K : Kind V) where
       ((b w : ℕ) → b < source .books → w < source .weekends → Cases (source .quote b w) (Unit {0}) (λ x. K .weight x ≤ 10 ^ 9)) → K .weight limit ≤ 10 ^ 12 →
       Sound (problem source roster bounds limit)
 
+  -- and no lower bound of it is above its upper bound
+  abbrev pub Posed-straight : Type 0
+  Posed-straight = (source : Meaning V) (roster : Roster) (bounds : Bounds) (limit : V) (w c : ℕ) → problem source roster bounds limit .lower w c ≤ problem source roster bounds limit .upper w c
+
   -- what is added up and counted for a list of weekends is the total and the counts of that assignment
   abbrev pub Assigned-is : Type 0
   Assigned-is = (source : Meaning V) (roster : Roster) (bounds : Bounds) (limit : V) (assignment : List ℕ) →
@@ -93,12 +97,15 @@ module _ {V : Type 0} (K : Kind V) where
   Head-check-sound = (B : Problem V) → Sound B → (p : ℕ → ℕ) → Plan B p → (sheet : List ℤ) → head-accepts B sheet ≡ true → ⊥
 
   -- ---- the computed answers are the related ones
+  -- the test for a plan
   abbrev pub Plan-is : Type 0
   Plan-is = (B : Problem V) (p : ℕ → ℕ) → Iff (is-plan B p ≡ true) (Plan B p)
 
+  -- the test for a plan within the limit
   abbrev pub Within-is : Type 0
   Within-is = (B : Problem V) (p : ℕ → ℕ) → Sound B → Iff (is-within K B p ≡ true) (Within K B p)
 
+  -- the test whether some plan within the limit sends b to w
   abbrev pub Kept-is : Type 0
   Kept-is = (B : Problem V) (b w : ℕ) → Sound B → b < B .books → Iff (kept-at K B b w ≡ true) (Kept K B b w)
 

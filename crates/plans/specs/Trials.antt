@@ -73,6 +73,7 @@ module _ {V : Type 0} (K : Kind V) (B : Problem V) where
   unfoldable pub least-total : Option V
   least-total = least-among (assignments (B .books) (B .weekends))
 
+  -- the least total of all plans, held against the limit
   abbrev pub judged : Option V → Answer V
   judged None = no-plan
   judged (Some t) = cond (isLe (K .cmp t (B .limit))) (best t) dear

@@ -29,6 +29,7 @@ impl Roster {
         }
     }
 
+    // A roster of parts that keep what a roster has to keep.
     pub(crate) fn new(classes: usize, parents: [u8; 8], homes: [u8; 120]) -> Self
         requires sizes { ⌜ (1 ≤ classes) × (classes ≤ 8) ⌝ }
         requires above { ⌜ ((c : ℕ) → c < classes → getD parents c 0 < max 1 c) ⌝ }
@@ -51,6 +52,7 @@ impl Roster {
         self.classes
     }
 
+    // The parent of a class; 0 where there is no such class.
     pub fn parent(&self, class: usize) -> usize
         ensures { λ r. ⌜ r ≡ at (now (self .entry) .parents) class ⌝ }
     {
@@ -61,6 +63,7 @@ impl Roster {
         }
     }
 
+    // The class of a book; 0 where there is no such book.
     pub fn class_of(&self, book: usize) -> usize
         ensures value { λ r. ⌜ r ≡ at (now (self .entry) .homes) book ⌝ }
         ensures known { λ r. ⌜ r < now (self .entry) .classes ⌝ }

@@ -22,4 +22,5 @@ pub use promises::checks_stand;
 pub use promises::counts_stand;
 pub use promises::duality_stands;
 pub use promises::problems_stand;
+pub use promises::rosters_stand;
 pub use promises::trials_stand;

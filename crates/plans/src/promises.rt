@@ -1,12 +1,21 @@
 // Theorems on problems over any kind of amounts. Each function has a theorem for its contract and does nothing else.
+ghost use mathlib.Core.List.{List};
+ghost use Prim.Native.Nat.{ℕ};
 ghost use Rattle.plans.specs.Problem.{Problem};
-ghost use Rattle.plans.specs.Theorems.{Sound, Posed-sound, Assigned-is, Member-is, Toll-by-members, Double-counting, Weak-duality, Strong-duality, Toll-check-sound, Head-check-sound, Plan-is, Within-is, Kept-is, Best-is, One-of-three};
+ghost use Rattle.plans.specs.Rosters.{Roster-read};
+ghost use Rattle.plans.specs.Theorems.{Sound, Posed-sound, Posed-straight, Assigned-is, Member-is, Toll-by-members, Double-counting, Weak-duality, Strong-duality, Toll-check-sound, Head-check-sound, Plan-is, Within-is, Kept-is, Best-is, One-of-three};
 use amounts::Amount;
 
-// What a source, a roster, bounds and a limit put is a sound problem, if the quotes and the limit are light; what `total_of` and `count_of`
+// A roster is read from exactly the lists that make one, and holds what they say.
+pub fn rosters_stand()
+    ensures { λ _. ⌜ ((books : ℕ) (parents classes : List ℕ) → Roster-read books parents classes) ⌝ }
+{}
+
+// What a source, a roster, bounds and a limit put is a sound problem, if the quotes and the limit are light; its bounds never cross; what `total_of` and `count_of`
 // answer is the total and the count of an assignment there.
 pub fn problems_stand<X: Amount>()
     ensures sound { λ _. ⌜ Posed-sound (X·Amount .kind) ⌝ }
+    ensures straight { λ _. ⌜ Posed-straight (X·Amount .kind) ⌝ }
     ensures assigned { λ _. ⌜ Assigned-is (X·Amount .kind) ⌝ }
 {}
 
