@@ -12,3 +12,5 @@ pub mod Straight
 pub mod Rereading
 pub mod Coined
 pub mod Posing
+pub mod Soft
+pub mod Subgradient

@@ -8,3 +8,5 @@ pub mod Bounding
 pub mod Posed
 pub mod Free
 pub mod Theorems
+pub mod Soft
+pub mod Flows
