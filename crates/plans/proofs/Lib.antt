@@ -14,3 +14,5 @@ pub mod Coined
 pub mod Posing
 pub mod Soft
 pub mod Subgradient
+pub mod Optimal
+pub mod Violations

@@ -1,20 +1,20 @@
 -- The prices of soft bounds are convex. Assumes nothing.
-use mathlib.Core.Path.{_≡_, refl, sym, ap, ap₂, subst, _∙_}
-use mathlib.Core.Bool.{Bool, true, false, cond}
+use mathlib.Core.Path.{_≡_, refl, sym, subst, _∙_}
+use mathlib.Core.Bool.{cond}
 use mathlib.Core.Logic.{_⊎_, inl, inr, ⊎-elim}
-use Prim.Native.Nat.{ℕ, zero, suc, _+_, _*_, _-_, _≤_, _<_}
+use Prim.Native.Nat.{ℕ, suc, _*_, _-_, _≤_, _<_}
 use native.Mathlib.Nat.{mul-le-mul-right}
 use native.Mathlib.Omega.{arith}
-use lib.Dec.{ltb, leb}
+use lib.Dec.{leb}
 use Rattle.std.proofs.shelf.Tests.{cases-lt, lt-ltb, le-ltb, le-leb, lt-leb, cond-both}
 use Rattle.amounts.specs.Kind.{Kind, Lawful, law-limit, AtMost}
 use Rattle.amounts.specs.Sums.{copies}
-use Rattle.plans.specs.Soft.{broken, fine, rise, fall, soft-kind, violation, Convex}
-use Rattle.plans.specs.Flows.{Soft-convex}
 use Rattle.amounts.proofs.Order.{at-most-trans, plus-at-most-right, plus-minus, minus-minus, minus-none}
 use Rattle.amounts.proofs.Copies.{copies-weight}
 use Rattle.amounts.proofs.Coins.{money-lawful}
 use Rattle.amounts.proofs.Ranks.{ranked-lawful}
+use Rattle.plans.specs.Soft.{broken, fine, rise, fall, soft-kind, violation, Convex}
+use Rattle.plans.specs.Flows.{Soft-convex}
 
 module _ {V : Type 0} {K : Kind V} (L : Lawful K) where
   open Kind K using (none, plus, minus, weight)

@@ -1,15 +1,15 @@
 -- An entry between the last step and the next is a subgradient of convex prices. Assumes nothing.
-use mathlib.Core.Path.{_≡_, refl, sym, ap, ap₂, subst, _∙_}
-use mathlib.Core.Logic.{_⊎_, inl, inr, ⊎-elim}
+use mathlib.Core.Path.{_≡_, refl, sym, subst}
+use mathlib.Core.Logic.{_⊎_, inr, ⊎-elim}
 use Prim.Native.Nat.{ℕ, zero, suc, _+_, _*_, _-_, _≤_, _<_}
 use native.Mathlib.Nat.{mul-le-mul-right}
 use native.Mathlib.Omega.{arith}
 use Rattle.std.proofs.shelf.Tests.{cases-lt}
 use Rattle.amounts.specs.Kind.{Kind, Lawful, law-limit, AtMost}
 use Rattle.amounts.specs.Sums.{copies}
-use Rattle.plans.specs.Soft.{Convex}
-use Rattle.amounts.proofs.Order.{at-most-refl, at-most-trans, plus-at-most, plus-at-most-left, plus-at-most-right, plus-swap, unit-left, plus-minus, plus-turn, at-most-from-difference}
+use Rattle.amounts.proofs.Order.{at-most-trans, plus-at-most, plus-turn, at-most-from-difference}
 use Rattle.amounts.proofs.Copies.{copies-weight}
+use Rattle.plans.specs.Soft.{Convex}
 
 module _ {V : Type 0} {K : Kind V} (L : Lawful K) where
   open Kind K using (none, plus, minus, weight)

@@ -9,4 +9,5 @@ pub mod Posed
 pub mod Free
 pub mod Theorems
 pub mod Soft
+pub mod Residual
 pub mod Flows

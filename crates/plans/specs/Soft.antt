@@ -4,11 +4,14 @@ use mathlib.Core.Bool.{cond}
 use Prim.Native.Nat.{ℕ, suc, _+_, _-_, _≤_, _<_}
 use lib.Dec.{ltb, leb}
 use lib.IntN.{pos}
+use Rattle.std.specs.declared.option.Option.{Option}
+use Rattle.std.specs.declared.option.Option.the-variants.{Some, None}
 use Rattle.amounts.specs.declared.money.Money.{Money}
 use Rattle.amounts.specs.declared.ranked.Ranked.{Ranked}
 use Rattle.amounts.specs.Kind.{Kind, AtMost}
-use Rattle.amounts.specs.Sums.{copies}
+use Rattle.amounts.specs.Sums.{copies, sumN}
 use Rattle.amounts.specs.Models.{money, money-kind, ranked, ranked-kind}
+use Rattle.plans.specs.Problem.{Problem, count, total}
 
 -- how many of m members are missing or too many
 abbrev pub broken : ℕ → ℕ → ℕ → ℕ
@@ -50,3 +53,30 @@ module _ {V : Type 0} (K : Kind V) where
     pub price-light : (m : ℕ) → m ≤ top → K .weight (price m) ≤ heavy
     pub rise-light : (m : ℕ) → K .weight (rise m) ≤ heavy
     pub fall-light : (m : ℕ) → K .weight (fall m) ≤ heavy
+
+-- an open pair's amount, behind no violation
+abbrev pub behind : {V : Type 0} → Option V → Option (Ranked Money V)
+behind None = None
+behind (Some x) = Some (ranked (money (pos 0)) x)
+
+-- the same problem in violations and amounts: no quote is a violation
+abbrev pub softened : {V : Type 0} → Problem V → Problem (Ranked Money V)
+softened B = record {
+  books = B .books;
+  weekends = B .weekends;
+  classes = B .classes;
+  parent = B .parent;
+  class = B .class;
+  lower = B .lower;
+  upper = B .upper;
+  quote = λ b w. behind (B .quote b w);
+  limit = ranked (money (pos 0)) (B .limit);
+}
+
+-- how many members are missing or too many, over all weekends and classes
+unfoldable pub violations : {V : Type 0} → Problem V → (ℕ → ℕ) → ℕ
+violations B p = sumN (B .weekends) (λ w. sumN (B .classes) (λ c. broken (B .lower w c) (B .upper w c) (count B p w c)))
+
+-- violations first, and then the total
+abbrev pub score : {V : Type 0} → Kind V → Problem V → (ℕ → ℕ) → Ranked Money V
+score K B p = ranked (money (pos (violations B p))) (total K B p)

@@ -1,5 +1,5 @@
 // Theorems that a search for a least plan stands on, over any kind of amounts. Each function has theorems for its contract and does nothing else.
-ghost use Rattle.plans.specs.Flows.{Soft-convex, Subgradient};
+ghost use Rattle.plans.specs.Flows.{Soft-convex, Subgradient, Least-by-labels, Least-in-score, Labels-settle};
 use amounts::Amount;
 
 // The prices of soft bounds are convex, with violations before amounts; and an entry between the last step and the next is a subgradient of
@@ -7,4 +7,12 @@ use amounts::Amount;
 pub fn soft_bounds_stand<X: Amount>()
     ensures convex { λ _. ⌜ Soft-convex (X·Amount .kind) ⌝ }
     ensures subgradient { λ _. ⌜ Subgradient (X·Amount .kind) ⌝ }
+{}
+
+// Where charges are convex, valid labels make an assignment least among all that are inside the words. Under soft bounds it is then least in violations,
+// and next in total; and where each book may go wherever it is open, it is a least plan, or there is no plan.
+pub fn labels_stand<X: Amount>()
+    ensures charged { λ _. ⌜ Least-by-labels (X·Amount .kind) ⌝ }
+    ensures scored { λ _. ⌜ Least-in-score (X·Amount .kind) ⌝ }
+    ensures settled { λ _. ⌜ Labels-settle (X·Amount .kind) ⌝ }
 {}

@@ -1,0 +1,73 @@
+-- The residual graph of an assignment: nodes, arcs, labels, and when labels are valid. Assumes nothing.
+use mathlib.Core.Path.{_≡_}
+use mathlib.Core.Bool.{Bool, true}
+use Prim.Native.Nat.{ℕ, zero, suc, _+_, _*_, _≤_, _<_, _^_}
+use Rattle.amounts.specs.Kind.{Kind, AtMost}
+use Rattle.amounts.specs.Sums.{Table}
+use Rattle.amounts.specs.Least.{orNone}
+use Rattle.plans.specs.Problem.{Problem, count, total}
+use Rattle.plans.specs.Soft.{Convex}
+
+-- The graph shows how an assignment can change. It has a node for each weekend and class, and one more, the sink. From each node an arc leads up to the
+-- node above, at the cost of the rise (one more is counted at the node), and an arc leads from there down to it, at the cost of the fall (one fewer is
+-- counted). Where a book may move to another weekend, an arc leads from the node of its weekend and class to the node of the other weekend and its
+-- class, at the cost of the difference of the quotes.
+
+-- the node of the class c at the weekend w: each weekend has room for 8 classes, however many there are
+abbrev pub node : ℕ → ℕ → ℕ
+node w c = w * 8 + c
+
+-- the node above all
+abbrev pub sink : ℕ
+sink = 128
+
+-- the node above that of w and c: the parent's, and the sink above class 0
+unfoldable pub above : (ℕ → ℕ) → ℕ → ℕ → ℕ
+above parent w zero = sink
+above parent w (suc c) = node w (parent (suc c))
+
+-- what is charged for m members of c at w; the rise to m + 1, and the fall to m - 1
+pub record Charges (V : Type 0) : Type 0 where
+  pub price : ℕ → ℕ → ℕ → V
+  pub rise : ℕ → ℕ → ℕ → V
+  pub fall : ℕ → ℕ → ℕ → V
+
+-- f counts the assignment p, node by node
+abbrev pub Counts : {V : Type 0} → Problem V → (ℕ → ℕ) → (ℕ → ℕ) → Type 0
+Counts B p f = (w c : ℕ) → w < B .weekends → c < B .classes → f (node w c) ≡ count B p w c
+
+-- The word of a book says to which weekends it may be sent. p sends each book to a weekend of its word
+pub record Inside {V : Type 0} (B : Problem V) (word : ℕ → ℕ → Bool) (p : ℕ → ℕ) : Type 0 where
+  pub sent : (b : ℕ) → b < B .books → p b < B .weekends
+  pub meets : (b : ℕ) → b < B .books → word b (p b) ≡ true
+
+module _ {V : Type 0} (K : Kind V) (B : Problem V) where
+  -- the quote of an open pair, and nothing for one that is shut
+  abbrev pub quoted : ℕ → ℕ → V
+  quoted b w = orNone K (B .quote b w)
+
+  -- the cost of moving the book b from y to x
+  abbrev pub moving : ℕ → ℕ → ℕ → V
+  moving b y x = K .plus (quoted b x) (K .minus (quoted b y))
+
+  -- A label is an amount at a node; labels are light enough that their differences are light entries of a sheet
+  abbrev pub Light-labels : (ℕ → V) → Type 0
+  Light-labels l = (v : ℕ) → K .weight (l v) ≤ 26 * 10 ^ 10
+
+  module _ (X : Charges V) where
+    -- the charges of each weekend and class are convex
+    abbrev pub Convex-charges : Type 0
+    Convex-charges = (w c : ℕ) → w < B .weekends → c < B .classes → Convex K 120 (10 ^ 13) (X .price w c) (X .rise w c) (X .fall w c)
+
+    -- Labels are valid for an assignment p and its counts f if along no arc the label grows by more than the cost
+    pub record Valid (word : ℕ → ℕ → Bool) (l : ℕ → V) (p f : ℕ → ℕ) : Type 0 where
+      -- along the arcs up
+      pub rising : (w c : ℕ) → w < B .weekends → c < B .classes → AtMost K (l (above (B .parent) w c)) (K .plus (l (node w c)) (X .rise w c (f (node w c))))
+      -- along the arcs down
+      pub falling : (w c : ℕ) → w < B .weekends → c < B .classes → AtMost K (l (node w c)) (K .plus (l (above (B .parent) w c)) (X .fall w c (f (node w c))))
+      -- along the moves of the books
+      pub moved : (b x : ℕ) → b < B .books → x < B .weekends → word b x ≡ true → AtMost K (l (node x (B .class b))) (K .plus (l (node (p b) (B .class b))) (moving b (p b) x))
+
+    -- the quotes of an assignment and the charges for its counts
+    unfoldable pub whole : (ℕ → ℕ) → V
+    whole p = K .plus (total K B p) (Table K (B .weekends) (B .classes) (λ w c. X .price w c (count B p w c)))
