@@ -40,7 +40,7 @@ module _ (parent : ℕ → ℕ) (root : parent 0 ≡ 0) where
     parent-le (suc x) l = omega (arith, above (suc x) (omega arith) l)
 
     -- a climb goes down in number
-    climbs-le : (k x c : ℕ) → x < C → climbs parent k x c ≡ true → c ≤ x
+    pub climbs-le : (k x c : ℕ) → x < C → climbs parent k x c ≡ true → c ≤ x
     climbs-le zero x c l h = omega (arith, eqb-true x c h)
     climbs-le (suc k) x c l h =
         let down = parent-le x l in

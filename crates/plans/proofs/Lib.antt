@@ -16,3 +16,4 @@ pub mod Soft
 pub mod Subgradient
 pub mod Optimal
 pub mod Violations
+pub mod Hole

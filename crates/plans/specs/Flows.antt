@@ -8,7 +8,7 @@ use Rattle.amounts.specs.Kind.{Kind, law-limit, AtMost}
 use Rattle.amounts.specs.Sums.{copies}
 use Rattle.plans.specs.Problem.{Problem, Plan, No-plan, is-open, total}
 use Rattle.plans.specs.Soft.{fine, rise, fall, soft-kind, violation, Convex, softened, violations, score}
-use Rattle.plans.specs.Residual.{Charges, Counts, Inside, Light-labels, Convex-charges, Valid, whole}
+use Rattle.plans.specs.Residual.{node, above, Charges, Counts, Holed, But-for, But-at, Inside, Light-labels, Convex-charges, Valid, whole}
 use Rattle.plans.specs.Theorems.{Sound}
 
 module _ {V : Type 0} (K : Kind V) where
@@ -59,3 +59,21 @@ module _ {V : Type 0} (K : Kind V) where
 
   abbrev pub Labels-settle : Type 0
   Labels-settle = (B : Problem V) → Sound K B → Straight B → (l : ℕ → Ranked Money V) (p f : ℕ → ℕ) → Shown B (is-open B) l p f → Settles B p
+
+  -- the hole, from the moment that b is taken out until it is put in again
+  pub record Hole-kept (B : Problem V) : Type 0 where
+    -- where b is taken out there is a hole
+    pub begins : (p f : ℕ → ℕ) (b : ℕ) → b < B .books → Counts B p f → Holed B p f b (node (p b) (B .class b))
+    -- a book j that is moved into the hole leaves the hole where it was
+    pub moves : (p q f : ℕ → ℕ) (b j x : ℕ) → b < B .books → j < B .books → (j ≡ b → ⊥) → Holed B p f b (node x (B .class j)) → q j ≡ x → But-for B j p q → Holed B q f b (node (p j) (B .class j))
+    -- one more at w and c takes the hole there from the node above
+    pub comes-down : (p f g : ℕ → ℕ) (b w c : ℕ) → c < B .classes → Holed B p f b (above (B .parent) w c) → g (node w c) ≡ suc (f (node w c)) → But-at (node w c) f g → Holed B p g b (node w c)
+    -- one fewer at w and c takes the hole from there to the node above
+    pub goes-up : (p f g : ℕ → ℕ) (b w c : ℕ) → c < B .classes → Holed B p f b (node w c) → f (node w c) ≡ suc (g (node w c)) → But-at (node w c) f g → Holed B p g b (above (B .parent) w c)
+    -- where the hole is, at least one is counted
+    pub counted : (p f : ℕ → ℕ) (b w c : ℕ) → b < B .books → w < B .weekends → c < B .classes → Holed B p f b (node w c) → 1 ≤ f (node w c)
+    -- b put into the hole fills it
+    pub ends : (p q f : ℕ → ℕ) (b x : ℕ) → b < B .books → Holed B p f b (node x (B .class b)) → q b ≡ x → But-for B b p q → Counts B q f
+
+  abbrev pub Hole : Type 0
+  Hole = (B : Problem V) → Sound K B → Hole-kept B

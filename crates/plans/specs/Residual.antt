@@ -1,11 +1,12 @@
 -- The residual graph of an assignment: nodes, arcs, labels, and when labels are valid. Assumes nothing.
 use mathlib.Core.Path.{_≡_}
-use mathlib.Core.Bool.{Bool, true}
-use Prim.Native.Nat.{ℕ, zero, suc, _+_, _*_, _≤_, _<_, _^_}
+use mathlib.Core.Bool.{Bool, true, _&&_}
+use Prim.Native.Nat.{ℕ, zero, suc, _+_, _*_, _≤_, _<_, _^_, _/_, _%_}
+use lib.Dec.{eqb}
 use Rattle.amounts.specs.Kind.{Kind, AtMost}
-use Rattle.amounts.specs.Sums.{Table}
+use Rattle.amounts.specs.Sums.{Table, bit}
 use Rattle.amounts.specs.Least.{orNone}
-use Rattle.plans.specs.Problem.{Problem, count, total}
+use Rattle.plans.specs.Problem.{Problem, climbs, member, count, total}
 use Rattle.plans.specs.Soft.{Convex}
 
 -- The graph shows how an assignment can change. It has a node for each weekend and class, and one more, the sink. From each node an arc leads up to the
@@ -35,6 +36,22 @@ pub record Charges (V : Type 0) : Type 0 where
 -- f counts the assignment p, node by node
 abbrev pub Counts : {V : Type 0} → Problem V → (ℕ → ℕ) → (ℕ → ℕ) → Type 0
 Counts B p f = (w c : ℕ) → w < B .weekends → c < B .classes → f (node w c) ≡ count B p w c
+
+-- would a book at the node v count at w and c? It would at its own weekend, for its class and for every class above; at the sink it counts nowhere
+unfoldable pub covers : (ℕ → ℕ) → ℕ → ℕ → ℕ → Bool
+covers parent v w c = eqb (v / 8) w && climbs parent (v % 8) (v % 8) c
+
+-- The hole. f counts the assignment p, but with the book b taken from its weekend and put at the node v: there the hole is, for b or another book to fill
+abbrev pub Holed : {V : Type 0} → Problem V → (ℕ → ℕ) → (ℕ → ℕ) → ℕ → ℕ → Type 0
+Holed B p f b v = (w c : ℕ) → w < B .weekends → c < B .classes → f (node w c) + bit (eqb (p b) w && member B b c) ≡ count B p w c + bit (covers (B .parent) v w c)
+
+-- q sends the books as p does, but for j
+abbrev pub But-for : {V : Type 0} → Problem V → ℕ → (ℕ → ℕ) → (ℕ → ℕ) → Type 0
+But-for B j p q = (i : ℕ) → i < B .books → (i ≡ j → ⊥) → q i ≡ p i
+
+-- g counts as f does, but at the node n
+abbrev pub But-at : ℕ → (ℕ → ℕ) → (ℕ → ℕ) → Type 0
+But-at n f g = (v : ℕ) → (v ≡ n → ⊥) → g v ≡ f v
 
 -- The word of a book says to which weekends it may be sent. p sends each book to a weekend of its word
 pub record Inside {V : Type 0} (B : Problem V) (word : ℕ → ℕ → Bool) (p : ℕ → ℕ) : Type 0 where

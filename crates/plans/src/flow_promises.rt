@@ -1,5 +1,5 @@
 // Theorems that a search for a least plan stands on, over any kind of amounts. Each function has theorems for its contract and does nothing else.
-ghost use Rattle.plans.specs.Flows.{Soft-convex, Subgradient, Least-by-labels, Least-in-score, Labels-settle};
+ghost use Rattle.plans.specs.Flows.{Soft-convex, Subgradient, Least-by-labels, Least-in-score, Labels-settle, Hole};
 use amounts::Amount;
 
 // The prices of soft bounds are convex, with violations before amounts; and an entry between the last step and the next is a subgradient of
@@ -15,4 +15,9 @@ pub fn labels_stand<X: Amount>()
     ensures charged { λ _. ⌜ Least-by-labels (X·Amount .kind) ⌝ }
     ensures scored { λ _. ⌜ Least-in-score (X·Amount .kind) ⌝ }
     ensures settled { λ _. ⌜ Labels-settle (X·Amount .kind) ⌝ }
+{}
+
+// While one book is taken out and others are moved, the counts are those of the assignment with that book put at the hole.
+pub fn hole_stands<X: Amount>()
+    ensures { λ _. ⌜ Hole (X·Amount .kind) ⌝ }
 {}

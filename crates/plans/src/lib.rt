@@ -18,6 +18,7 @@ pub use checks::toll_accepts;
 pub use class_lists::RosterFault;
 pub use class_tree::Roster;
 pub use floors::floor;
+pub use flow_promises::hole_stands;
 pub use flow_promises::labels_stand;
 pub use flow_promises::soft_bounds_stand;
 pub use heads::head_accepts;
