@@ -17,3 +17,7 @@ pub mod Subgradient
 pub mod Optimal
 pub mod Violations
 pub mod Hole
+pub mod Walk
+pub mod Spent
+pub mod Paths
+pub mod Landing

@@ -26,6 +26,9 @@ pub count-le : {V : Type 0} {K : Kind V} (B : Problem V) → Sound K B → (p : 
 unfolding count
 count-le B s p w c = omega (arith, s .books, tally-le (B .books) (λ b. eqb (p b) w && member B b c))
 
+pub quoted-light : {V : Type 0} {K : Kind V} → Lawful K → (B : Problem V) → Sound K B → (b w : ℕ) → b < B .books → w < B .weekends → K .weight (quoted K B b w) ≤ 10 ^ 9
+quoted-light L B s b w lb lw = quote-light L (B .quote b w) (s .quotes b w lb lw)
+
 module _ {V : Type 0} {K : Kind V} (L : Lawful K) (B : Problem V) (s : Sound K B) (l : ℕ → V) (light : Light-labels K B l) where
   -- ---- from the labels to a sheet: an entry is the label above less the label
   abbrev e : ℕ → ℕ → V
@@ -71,9 +74,6 @@ module _ {V : Type 0} {K : Kind V} (L : Lawful K) (B : Problem V) (s : Sound K B
   pays-light : (b w : ℕ) → b < B .books → K .weight (pays b w) ≤ 52 * 10 ^ 10
   pays-light b w h = rw (pays-is b w h) (gap-light sink (node w (B .class b)))
 
-  quoted-light : (b w : ℕ) → b < B .books → w < B .weekends → K .weight (quoted K B b w) ≤ 10 ^ 9
-  quoted-light b w lb lw = quote-light L (B .quote b w) (s .quotes b w lb lw)
-
   paid : (p : ℕ → ℕ) → V
   paid p = Sum K (B .books) (λ b. pays b (p b))
 
@@ -113,8 +113,8 @@ module _ {V : Type 0} {K : Kind V} (L : Lawful K) (B : Problem V) (s : Sound K B
       unfolding law-limit
       one-book b h =
           let m = valid .moved b (q b) h (other .sent b h) (other .meets b h) in
-          let qp = quoted-light b (p b) h (inside .sent b h) in
-          let qq = quoted-light b (q b) h (other .sent b h) in
+          let qp = quoted-light L B s b (p b) h (inside .sent b h) in
+          let qq = quoted-light L B s b (q b) h (other .sent b h) in
           let s = light sink in
           let lp = light (node (p b) (B .class b)) in
           let lq = light (node (q b) (B .class b)) in
@@ -124,7 +124,7 @@ module _ {V : Type 0} {K : Kind V} (L : Lawful K) (B : Problem V) (s : Sound K B
       books-weigh : (g : ℕ → ℕ) → ((b : ℕ) → b < B .books → g b < B .weekends) → weights K (B .books) (λ b. quoted K B b (g b)) + weights K (B .books) (λ b. pays b (g b)) ≤ 10 ^ 14
       books-weigh g sent =
           let n = s .books in
-          omega (arith, weights-le K (10 ^ 9) (B .books) (λ b. quoted K B b (g b)) (λ b h. quoted-light b (g b) h (sent b h)), weights-le K (52 * 10 ^ 10) (B .books) (λ b. pays b (g b)) (λ b h. pays-light b (g b) h))
+          omega (arith, weights-le K (10 ^ 9) (B .books) (λ b. quoted K B b (g b)) (λ b h. quoted-light L B s b (g b) h (sent b h)), weights-le K (52 * 10 ^ 10) (B .books) (λ b. pays b (g b)) (λ b h. pays-light b (g b) h))
 
       both-weigh : (g : ℕ → ℕ) → ((b : ℕ) → b < B .books → g b < B .weekends) → weights K (B .books) (λ b. K .plus (quoted K B b (g b)) (pays b (g b))) ≤ 10 ^ 14
       unfolding law-limit
@@ -133,7 +133,7 @@ module _ {V : Type 0} {K : Kind V} (L : Lawful K) (B : Problem V) (s : Sound K B
           omega (
             arith,
             weights-le K (53 * 10 ^ 10) (B .books) (λ b. K .plus (quoted K B b (g b)) (pays b (g b))) (λ b h.
-                let x = quoted-light b (g b) h (sent b h) in
+                let x = quoted-light L B s b (g b) h (sent b h) in
                 let y = pays-light b (g b) h in
                 omega (arith, L .plus-weight (quoted K B b (g b)) (pays b (g b)) (omega arith))),
           )

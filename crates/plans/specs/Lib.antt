@@ -10,4 +10,6 @@ pub mod Free
 pub mod Theorems
 pub mod Soft
 pub mod Residual
+pub mod Walk
+pub mod Search
 pub mod Flows

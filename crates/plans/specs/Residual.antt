@@ -6,8 +6,11 @@ use lib.Dec.{eqb}
 use Rattle.amounts.specs.Kind.{Kind, AtMost}
 use Rattle.amounts.specs.Sums.{Table, bit}
 use Rattle.amounts.specs.Least.{orNone}
+use Rattle.plans.specs.declared.arcs.Arc.{Arc}
+use Rattle.plans.specs.declared.arcs.Arc.the-variants.{Rise, Fall, Move}
 use Rattle.plans.specs.Problem.{Problem, climbs, member, count, total}
 use Rattle.plans.specs.Soft.{Convex}
+use Rattle.plans.specs.Theorems.{Sound}
 
 -- The graph shows how an assignment can change. It has a node for each weekend and class, and one more, the sink. From each node an arc leads up to the
 -- node above, at the cost of the rise (one more is counted at the node), and an arc leads from there down to it, at the cost of the fall (one fewer is
@@ -58,6 +61,25 @@ pub record Inside {V : Type 0} (B : Problem V) (word : ℕ → ℕ → Bool) (p 
   pub sent : (b : ℕ) → b < B .books → p b < B .weekends
   pub meets : (b : ℕ) → b < B .books → word b (p b) ≡ true
 
+module _ {V : Type 0} (B : Problem V) where
+  -- the arcs that there are: a book moves inside its word
+  abbrev pub Live : (ℕ → ℕ → Bool) → Arc → Type 0
+  Live word (Rise w c) = (w < B .weekends) × (c < B .classes)
+  Live word (Fall w c) = (w < B .weekends) × (c < B .classes)
+  Live word (Move j x) = (j < B .books) × (x < B .weekends) × (word j x ≡ true)
+
+  -- the node that an arc leads to
+  abbrev pub head : Arc → ℕ
+  head (Rise w c) = above (B .parent) w c
+  head (Fall w c) = node w c
+  head (Move j x) = node x (B .class j)
+
+  -- the node that it leads from, where p is the assignment
+  abbrev pub tail : (ℕ → ℕ) → Arc → ℕ
+  tail p (Rise w c) = node w c
+  tail p (Fall w c) = above (B .parent) w c
+  tail p (Move j x) = node (p j) (B .class j)
+
 module _ {V : Type 0} (K : Kind V) (B : Problem V) where
   -- the quote of an open pair, and nothing for one that is shut
   abbrev pub quoted : ℕ → ℕ → V
@@ -75,6 +97,19 @@ module _ {V : Type 0} (K : Kind V) (B : Problem V) where
     -- the charges of each weekend and class are convex
     abbrev pub Convex-charges : Type 0
     Convex-charges = (w c : ℕ) → w < B .weekends → c < B .classes → Convex K 120 (10 ^ 13) (X .price w c) (X .rise w c) (X .fall w c)
+
+    -- a problem and charges that are light enough for a search
+    pub record Fits : Type 0 where
+      pub sound : Sound K B
+      pub convex : Convex-charges
+      pub rises : (w c m : ℕ) → w < B .weekends → c < B .classes → K .weight (X .rise w c m) ≤ 2 * 10 ^ 9
+      pub falls : (w c m : ℕ) → w < B .weekends → c < B .classes → K .weight (X .fall w c m) ≤ 2 * 10 ^ 9
+
+    -- the cost of an arc, where p is the assignment and f counts it
+    abbrev pub arc-cost : (ℕ → ℕ) → (ℕ → ℕ) → Arc → V
+    arc-cost p f (Rise w c) = X .rise w c (f (node w c))
+    arc-cost p f (Fall w c) = X .fall w c (f (node w c))
+    arc-cost p f (Move j x) = moving j (p j) x
 
     -- Labels are valid for an assignment p and its counts f if along no arc the label grows by more than the cost
     pub record Valid (word : ℕ → ℕ → Bool) (l : ℕ → V) (p f : ℕ → ℕ) : Type 0 where

@@ -1,4 +1,5 @@
 // Planning problems: what plans there are and what they come to; the sheets that show that there is none; both checks.
+mod arcs;
 mod assignments;
 mod bound_table;
 mod checks;
@@ -11,6 +12,7 @@ mod heads;
 mod promises;
 mod tolls;
 
+pub use arcs::Arc;
 pub use assignments::count_of;
 pub use assignments::total_of;
 pub use bound_table::Bounds;
