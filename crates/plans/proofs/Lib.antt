@@ -21,3 +21,7 @@ pub mod Walk
 pub mod Spent
 pub mod Paths
 pub mod Landing
+pub mod Ends
+pub mod Reassign
+pub mod Begin
+pub mod Stages

@@ -104,6 +104,24 @@ module _ {V : Type 0} {K : Kind V} (L : Lawful K) (B : Problem V) (X : Charges V
       pub settle-last : Last K B X word k into begin p f pot d rank′ u
       settle-last y hy = ⊎-elim (λ (e : y ≡ u). subst (λ z. Before K B X word k into begin p f pot d z u) (sym e) (inr refl)) (λ (m : (y ≡ u → ⊥) × (rank y < nodes)). i .order y u (m .1) su open′) (settled-cases y hy)
 
+    -- the arcs that were satisfied, and a
+    abbrev More : Arc → Arc → Type 0
+    More a e = Done e ⊎ (e ≡ a)
+
+    module _ (a : Arc) (la : Live B word a) (hu : rank (tail B p a) < nodes) where
+      -- the label at its head is already as good
+      pub relax-none : seen (head B a) ≡ true → AtMost K (d (head B a)) (K .plus (d (tail B p a)) (arc-cost K B X p f a)) → State (More a) t d seen rank via
+      relax-none s h = record {
+        counted = i .counted;
+        ranked = i .ranked;
+        order = i .order;
+        done = λ e. ⊎-elim (λ (x : Done e). i .done e x) (λ (x : e ≡ a). subst (λ e. (rank (tail B p e) < nodes) × (seen (head B e) ≡ true) × AtMost K (d (head B e)) (K .plus (d (tail B p e)) (arc-cost K B X p f e)) × Live B word e) (sym x) (hu, s, h, la));
+        reason = i .reason;
+        starts = i .starts;
+        settled-light = i .settled-light;
+        light = i .light;
+      }
+
     -- ---- relax the arc a, out of the node settled last
     module _ (a : Arc) (la : Live B word a) (hu : rank (tail B p a) < nodes) (last : Last K B X word k into begin p f pot d rank (tail B p a)) where
       offer : V
@@ -126,22 +144,6 @@ module _ {V : Type 0} {K : Kind V} (L : Lawful K) (B : Problem V) (X : Charges V
           let ph = g .light (head B a) in
           let pt = g .light (tail B p a) in
           linear L (d (head B a) ∷ d (tail B p a) ∷ arc-cost K B X p f a ∷ pot (head B a) ∷ pot (tail B p a) ∷ []) ((var 0 ⊕ var 4, var 1 ⊕ var 3) ∷ (var 3, var 4 ⊕ var 2) ∷ []) (var 0) (var 1 ⊕ var 2) (last (head B a) h, (satisfied a la, tt)) (omega arith) refl
-
-      abbrev More : Arc → Type 0
-      More e = Done e ⊎ (e ≡ a)
-
-      -- the label at its head is already as good
-      pub relax-none : seen (head B a) ≡ true → AtMost K (d (head B a)) (K .plus (d (tail B p a)) (arc-cost K B X p f a)) → State More t d seen rank via
-      relax-none s h = record {
-        counted = i .counted;
-        ranked = i .ranked;
-        order = i .order;
-        done = λ e. ⊎-elim (λ (x : Done e). i .done e x) (λ (x : e ≡ a). subst (λ e. (rank (tail B p e) < nodes) × (seen (head B e) ≡ true) × AtMost K (d (head B e)) (K .plus (d (tail B p e)) (arc-cost K B X p f e)) × Live B word e) (sym x) (hu, s, h, la));
-        reason = i .reason;
-        starts = i .starts;
-        settled-light = i .settled-light;
-        light = i .light;
-      }
 
       -- the label at its head is lowered, or given for the first time
       module _ (open′ : nodes ≤ rank (head B a)) (lower : seen (head B a) ≡ true → AtMost K (K .plus (d (tail B p a)) (arc-cost K B X p f a)) (d (head B a)))
@@ -192,7 +194,7 @@ module _ {V : Type 0} {K : Kind V} (L : Lawful K) (B : Problem V) (X : Charges V
             let z = cheap e (i .done e x .3) in
             omega (arith, L .plus-weight (d (tail B p e)) (arc-cost K B X p f e) (omega arith))
 
-        new-done : (e : Arc) → More e → (rank (tail B p e) < nodes) × (seen′ (head B e) ≡ true) × AtMost K (d′ (head B e)) (K .plus (d′ (tail B p e)) (arc-cost K B X p f e)) × Live B word e
+        new-done : (e : Arc) → More a e → (rank (tail B p e) < nodes) × (seen′ (head B e) ≡ true) × AtMost K (d′ (head B e)) (K .plus (d′ (tail B p e)) (arc-cost K B X p f e)) × Live B word e
         unfolding law-limit
         new-done e (inl x) =
             let o = i .done e x in (
@@ -215,7 +217,7 @@ module _ {V : Type 0} {K : Kind V} (L : Lawful K) (B : Problem V) (X : Charges V
             go (inl e) = subst (λ v. Reason K B X word k into begin p f pot d′ rank v (via′ v)) (sym e) (rw by′ (la, refl, hu, (λ h. absurd (omega arith)), rw (same-d (tail B p a) (other (tail B p a) hu)) now))
             go (inr n) = rw (same-via v n) (kept n (via v) (i .reason v (sym (same-seen v n) ∙ sv)))
 
-        pub relax : State More t d′ seen′ rank via′
+        pub relax : State (More a) t d′ seen′ rank via′
         unfolding law-limit
         relax = record {
           counted = i .counted;

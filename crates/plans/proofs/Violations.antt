@@ -23,7 +23,7 @@ use Rattle.plans.specs.Problem.{Problem, Plan, member, count, total}
 use Rattle.plans.specs.Theorems.{Sound}
 use Rattle.plans.specs.Soft.{broken, fine, soft-kind, violation, behind, softened, violations, score}
 use Rattle.plans.specs.Residual.{Inside, Convex-charges, whole}
-use Rattle.plans.specs.Flows.{soft-charges, Least-in-score, Labels-settle}
+use Rattle.plans.specs.Flows.{soft-charges, Straight, Least-in-score, Labels-settle}
 use Rattle.plans.proofs.Duality.{total-light}
 use Rattle.plans.proofs.Soft.{soft-lawful, one-light, soft-convex}
 use Rattle.plans.proofs.Optimal.{count-le, least-by-labels}
@@ -68,7 +68,7 @@ module _ {V : Type 0} {K : Kind V} (L : Lawful K) where
   behind-second None = refl
   behind-second (Some x) = refl
 
-  softened-sound : (B : Problem V) → Sound K B → Sound (soft-kind K) (softened B)
+  pub softened-sound : (B : Problem V) → Sound K B → Sound (soft-kind K) (softened B)
   softened-sound B s = record {
     books = s .books;
     weekends = s .weekends;
@@ -123,27 +123,27 @@ module _ {V : Type 0} {K : Kind V} (L : Lawful K) where
         ap₂ (soft-kind K .plus) (total-behind B p) (soft-table ∙ ranked-copies money-kind K (violations B p) (violation K) ∙ ap₂ ranked (coins (violations B p) (omega (arith, violations-le))) (copies-none L (violations B p)))
         ∙ ap₂ ranked (unit-left money-lawful (money (pos (violations B p))) (omega (arith, violations-le))) (L .unit (total K B p) (omega (arith, total-light L B s p sent)))
 
+  pub soft-charges-convex : (B : Problem V) → Sound K B → Straight K B → Convex-charges (soft-kind K) (softened B) (soft-charges K B)
+  soft-charges-convex B s straight w c lw lc =
+      let x = soft-convex L (B .lower w c) (B .upper w c) (straight w c lw lc) (s .lowers w c lw lc) in
+      record {
+        step = x .step;
+        back = x .back;
+        first = x .first;
+        grows = x .grows;
+        price-light = λ m h. omega (arith, x .price-light m h);
+        rise-light = λ m. omega (arith, x .rise-light m);
+        fall-light = λ m. omega (arith, x .fall-light m);
+      }
+
   pub least-in-score : Least-in-score K
   unfolding count member
   least-in-score B s straight word l p f q shown other =
       subst₂ (AtMost (soft-kind K)) (whole-score B s p (shown .inside .sent)) (whole-score B s q (other .sent))
-      (least-by-labels (soft-lawful L) (softened B) (soft-charges K B) (softened-sound B s) convex word l p f q (shown .light) (inside p (shown .inside)) (shown .counts) (shown .valid) (inside q other))
+      (least-by-labels (soft-lawful L) (softened B) (soft-charges K B) (softened-sound B s) (soft-charges-convex B s straight) word l p f q (shown .light) (inside p (shown .inside)) (shown .counts) (shown .valid) (inside q other))
     where
       inside : (q : ℕ → ℕ) → Inside B word q → Inside (softened B) word q
       inside q i = record { sent = i .sent; meets = i .meets }
-
-      convex : Convex-charges (soft-kind K) (softened B) (soft-charges K B)
-      convex w c lw lc =
-          let x = soft-convex L (B .lower w c) (B .upper w c) (straight w c lw lc) (s .lowers w c lw lc) in
-          record {
-            step = x .step;
-            back = x .back;
-            first = x .first;
-            grows = x .grows;
-            price-light = λ m h. omega (arith, x .price-light m h);
-            rise-light = λ m. omega (arith, x .rise-light m);
-            fall-light = λ m. omega (arith, x .fall-light m);
-          }
 
   pub labels-settle : Labels-settle K
   unfolding law-limit

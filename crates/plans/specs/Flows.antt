@@ -1,14 +1,18 @@
 -- What is shown of soft bounds and labels, over one kind of amounts. Assumes nothing.
 use mathlib.Core.Path.{_≡_}
-use mathlib.Core.Bool.{Bool}
-use Prim.Native.Nat.{ℕ, suc, _+_, _*_, _≤_, _<_}
+use mathlib.Core.Bool.{Bool, true}
+use Prim.Native.Nat.{ℕ, suc, _+_, _*_, _≤_, _<_, _^_}
+use Rattle.std.specs.declared.option.Option.{Option}
+use Rattle.std.specs.declared.option.Option.the-variants.{Some, None}
 use Rattle.amounts.specs.declared.money.Money.{Money}
 use Rattle.amounts.specs.declared.ranked.Ranked.{Ranked}
 use Rattle.amounts.specs.Kind.{Kind, law-limit, AtMost}
 use Rattle.amounts.specs.Sums.{copies}
+use Rattle.plans.specs.declared.arcs.Arc.{Arc}
 use Rattle.plans.specs.Problem.{Problem, Plan, No-plan, is-open, total}
 use Rattle.plans.specs.Soft.{fine, rise, fall, soft-kind, violation, Convex, softened, violations, score}
-use Rattle.plans.specs.Residual.{node, above, Charges, Counts, Holed, But-for, But-at, Inside, Light-labels, Convex-charges, Valid, whole}
+use Rattle.plans.specs.Search.{nodes, Start, Searchable, Before, Searching, Last, Seeks, stage, stages, Staged}
+use Rattle.plans.specs.Residual.{Live, head, tail, quoted, arc-cost, Fits, node, above, Charges, Counts, Holed, But-for, But-at, Inside, Light-labels, Convex-charges, Valid, whole}
 use Rattle.plans.specs.Theorems.{Sound}
 
 module _ {V : Type 0} (K : Kind V) where
@@ -77,3 +81,77 @@ module _ {V : Type 0} (K : Kind V) where
 
   abbrev pub Hole : Type 0
   Hole = (B : Problem V) → Sound K B → Hole-kept B
+
+  -- soft bounds are light enough for a search
+  abbrev pub Soft-fits : Type 0
+  Soft-fits = (B : Problem V) → Sound K B → Straight B → Fits (soft-kind K) (softened B) (soft-charges B)
+
+  -- where no book may move, labels are valid if each is that of the node above less the rise: a search may start from there
+  abbrev pub Cold-valid : Type 0
+  Cold-valid = (B : Problem V) (X : Charges V) → Fits K B X → (word : ℕ → ℕ → Bool) (l : ℕ → V) (p f : ℕ → ℕ) → Light-labels K B l → ((b : ℕ) → b < B .books → p b < B .weekends) → ((b x : ℕ) → word b x ≡ true → x ≡ p b) →
+      ((w c : ℕ) → w < B .weekends → c < B .classes → l (node w c) ≡ K .plus (l (above (B .parent) w c)) (K .minus (X .rise w c (f (node w c))))) → Valid K B X word l p f
+
+  -- the steps of a search keep its invariant
+  module _ (B : Problem V) (X : Charges V) (word : ℕ → ℕ → Bool) (k : ℕ) (into : ℕ → Bool) (begin : ℕ → V) (p f : ℕ → ℕ) (pot : ℕ → V) where
+    -- u was settled last, and its arcs before stage s are taken
+    pub record Taking (t : ℕ) (d : ℕ → V) (seen : ℕ → Bool) (rank : ℕ → ℕ) (via : ℕ → Option Arc) (u s : ℕ) : Type 0 where
+      pub settled : rank u < nodes
+      pub last : Last K B X word k into begin p f pot d rank u
+      pub searching : Searching K B X word k into begin p f pot (Staged B word p rank u s) t d seen rank via
+
+    -- what the arc a offers to the node that it leads to
+    abbrev pub offer : (ℕ → V) → Arc → V
+    offer d a = K .plus (d (tail B p a)) (arc-cost K B X p f a)
+
+    -- a is the arc of stage s out of u
+    pub record Next (u s : ℕ) (a : Arc) : Type 0 where
+      pub live : Live B word a
+      pub from : tail B p a ≡ u
+      pub at : stage a ≡ s
+
+    pub record Search-kept : Type 0 where
+      -- at first the starts are seen, and nothing is settled
+      pub begins : (d : ℕ → V) (seen : ℕ → Bool) (rank : ℕ → ℕ) (via : ℕ → Option Arc) → ((v : ℕ) → nodes ≤ rank v) → ((v : ℕ) → via v ≡ None) →
+          ((v : ℕ) → seen v ≡ true → Start K B X word k into begin p f pot v (d v)) → ((v : ℕ) (s : V) → Start K B X word k into begin p f pot v s → (seen v ≡ true) × AtMost K (d v) s) → ((v : ℕ) → K .weight (d v) ≤ 10 ^ 9) →
+          Seeks K B X word k into begin p f pot 0 d seen rank via
+      -- of the nodes that are seen and not settled, one with a least key is settled
+      pub settles : (t : ℕ) (d : ℕ → V) (seen : ℕ → Bool) (rank rank′ : ℕ → ℕ) (via : ℕ → Option Arc) (u : ℕ) → Seeks K B X word k into begin p f pot t d seen rank via →
+          u < nodes → seen u ≡ true → nodes ≤ rank u → ((v : ℕ) → seen v ≡ true → nodes ≤ rank v → Before K B X word k into begin p f pot d u v) → rank′ u ≡ t → ((v : ℕ) → (v ≡ u → ⊥) → rank′ v ≡ rank v) →
+          (t < nodes) × Taking (suc t) d seen rank′ via u 0
+      -- u has no arc of stage s
+      pub skips : (t : ℕ) (d : ℕ → V) (seen : ℕ → Bool) (rank : ℕ → ℕ) (via : ℕ → Option Arc) (u s : ℕ) → Taking t d seen rank via u s → ((a : Arc) → Next u s a → ⊥) → Taking t d seen rank via u (suc s)
+      -- a settled node is not improved
+      pub no-better : (t : ℕ) (d : ℕ → V) (seen : ℕ → Bool) (rank : ℕ → ℕ) (via : ℕ → Option Arc) (u s : ℕ) (a : Arc) → Taking t d seen rank via u s → Next u s a → rank (head B a) < nodes → AtMost K (d (head B a)) (offer d a)
+      -- the label where the arc leads is as good already
+      pub keeps : (t : ℕ) (d : ℕ → V) (seen : ℕ → Bool) (rank : ℕ → ℕ) (via : ℕ → Option Arc) (u s : ℕ) (a : Arc) → Taking t d seen rank via u s → Next u s a → seen (head B a) ≡ true → AtMost K (d (head B a)) (offer d a) →
+          Taking t d seen rank via u (suc s)
+      -- the label where the arc leads is lowered, or given for the first time
+      pub lowers : (t : ℕ) (d d′ : ℕ → V) (seen seen′ : ℕ → Bool) (rank : ℕ → ℕ) (via via′ : ℕ → Option Arc) (u s : ℕ) (a : Arc) → Taking t d seen rank via u s → Next u s a → nodes ≤ rank (head B a) →
+          (seen (head B a) ≡ true → AtMost K (offer d a) (d (head B a))) → d′ (head B a) ≡ offer d a → seen′ (head B a) ≡ true → via′ (head B a) ≡ Some a →
+          ((v : ℕ) → (v ≡ head B a → ⊥) → (d′ v ≡ d v) × (seen′ v ≡ seen v) × (via′ v ≡ via v)) → Taking t d′ seen′ rank via′ u (suc s)
+      -- all stages are past
+      pub goes-on : (t : ℕ) (d : ℕ → V) (seen : ℕ → Bool) (rank : ℕ → ℕ) (via : ℕ → Option Arc) (u : ℕ) → Taking t d seen rank via u stages → Seeks K B X word k into begin p f pot t d seen rank via
+
+  abbrev pub Search : Type 0
+  Search = (B : Problem V) (X : Charges V) (word : ℕ → ℕ → Bool) (k : ℕ) (into : ℕ → Bool) (begin : ℕ → V) (p f : ℕ → ℕ) (pot : ℕ → V) → Searchable K B X word k into begin p f pot → Search-kept B X word k into begin p f pot
+
+  -- what a search from the class of b and the walk back give: an assignment with b at one of its new weekends
+  pub record Reassigned (B : Problem V) (X : Charges V) (word : ℕ → ℕ → Bool) (begin d : ℕ → V) (p : ℕ → ℕ) (b : ℕ) : Type 0 where
+    pub assignment : ℕ → ℕ
+    pub counts : ℕ → ℕ
+    pub counted : Counts B assignment counts
+    pub inside : Inside B word assignment
+    pub light : Light-labels K B d
+    pub valid : Valid K B X word d assignment counts
+    pub least : (q : ℕ → ℕ) → Inside B word q → AtMost K (whole K B X assignment) (whole K B X q)
+    -- what it costs, by the labels: what p cost, and the label where b was less that where it is, and the quote where it is less that where it was
+    pub costs : K .plus (K .plus (whole K B X assignment) (begin (assignment b))) (quoted K B b (p b)) ≡ K .plus (K .plus (whole K B X p) (d (node (p b) (B .class b)))) (quoted K B b (assignment b))
+
+  -- Where the search from the class of b has ended, with first labels that differ as the quotes of b do, there is an assignment with b at a weekend of `into`
+  -- and every other book inside its word. The labels that the search found are valid for it, so it is least; and the labels say what it costs
+  abbrev pub Reassigns : Type 0
+  Reassigns = (B : Problem V) (X : Charges V) (word : ℕ → ℕ → Bool) (b : ℕ) (into : ℕ → Bool) (begin : ℕ → V) (p f : ℕ → ℕ) (pot : ℕ → V) → b < B .books → Inside B word p → Counts B p f → Searchable K B X word (B .class b) into begin p f pot →
+      ((x y : ℕ) → x < B .weekends → y < B .weekends → into x ≡ true → into y ≡ true → K .plus (begin x) (quoted K B b y) ≡ K .plus (begin y) (quoted K B b x)) →
+      (x₀ : ℕ) → x₀ < B .weekends → into x₀ ≡ true →
+      (t : ℕ) (d : ℕ → V) (seen : ℕ → Bool) (rank : ℕ → ℕ) (via : ℕ → Option Arc) → Seeks K B X word (B .class b) into begin p f pot t d seen rank via → ((v : ℕ) → seen v ≡ true → rank v < nodes) →
+      (word′ : ℕ → ℕ → Bool) → ((x : ℕ) → word′ b x ≡ into x) → ((j x : ℕ) → (j ≡ b → ⊥) → word′ j x ≡ word j x) → Reassigned B X word′ begin d p b

@@ -8,6 +8,7 @@ use Rattle.std.specs.declared.option.Option.the-variants.{Some, None}
 use Rattle.amounts.specs.Kind.{Kind, AtMost}
 use Rattle.amounts.specs.Sums.{tally}
 use Rattle.plans.specs.declared.arcs.Arc.{Arc}
+use Rattle.plans.specs.declared.arcs.Arc.the-variants.{Rise, Fall, Move}
 use Rattle.plans.specs.Problem.{Problem}
 use Rattle.plans.specs.Residual.{node, Charges, Live, head, tail, arc-cost, Light-labels, Fits, Valid}
 
@@ -58,3 +59,17 @@ module _ {V : Type 0} (K : Kind V) (B : Problem V) (X : Charges V) (word : ℕ �
   -- every arc out of a settled node is satisfied
   abbrev pub Seeks : ℕ → (ℕ → V) → (ℕ → Bool) → (ℕ → ℕ) → (ℕ → Option Arc) → Type 0
   Seeks t d seen rank via = Searching (λ a. Live B word a × (rank (tail B p a) < nodes)) t d seen rank via
+
+-- the arcs out of a node in the order in which they are taken: up, then down by nodes, then the books by number and weekend
+abbrev pub stage : Arc → ℕ
+stage (Rise w c) = 0
+stage (Fall w c) = 1 + node w c
+stage (Move j x) = 129 + (j * 16 + x)
+
+-- no arc has this stage or a later one
+abbrev pub stages : ℕ
+stages = 2049
+
+-- the arcs out of settled nodes, but of those out of u only the ones before stage s
+abbrev pub Staged : {V : Type 0} → Problem V → (ℕ → ℕ → Bool) → (ℕ → ℕ) → (ℕ → ℕ) → ℕ → ℕ → Arc → Type 0
+Staged B word p rank u s a = Live B word a × (rank (tail B p a) < nodes) × (tail B p a ≡ u → stage a < s)

@@ -22,6 +22,7 @@ pub use class_tree::Roster;
 pub use floors::floor;
 pub use flow_promises::hole_stands;
 pub use flow_promises::labels_stand;
+pub use flow_promises::searches_stand;
 pub use flow_promises::soft_bounds_stand;
 pub use heads::head_accepts;
 pub use promises::checks_stand;
