@@ -8,7 +8,7 @@ use lib.Dec.{eqb}
 use Rattle.std.proofs.shelf.Tests.{cases-bool, eq-eqb, ne-eqb, eqb-true, eqb-false, and-cases, and-parts, and-from, and-left}
 use Rattle.amounts.specs.Kind.{Kind}
 use Rattle.amounts.specs.Sums.{bit}
-use Rattle.amounts.proofs.Numbers.{tally-set, tally-has}
+use Rattle.amounts.proofs.Numbers.{tally-le, tally-miss, tally-set, tally-has}
 use Rattle.plans.specs.Problem.{Problem, climbs, member, count}
 use Rattle.plans.specs.Theorems.{Sound}
 use Rattle.plans.specs.Residual.{node, sink, above, covers, Counts, Holed, But-for, But-at}
@@ -100,6 +100,29 @@ module _ {V : Type 0} {K : Kind V} (B : Problem V) (s : Sound K B) where
       itself zero x = eq-eqb x x refl
       itself (suc k) x = ap (λ u. u || climbs (B .parent) k (B .parent x) x) (eq-eqb x x refl)
 
+  -- the other books are fewer than all
+  rest-lt : (p : ℕ → ℕ) (b w c : ℕ) → b < B .books → count B p w c < B .books + bit (eqb (p b) w && member B b c)
+  unfolding count
+  rest-lt p b w c lb = ⊎-elim
+      (λ (e : (eqb (p b) w && member B b c) ≡ true). omega (arith, ap bit e, tally-le (B .books) (λ j. eqb (p j) w && member B j c)))
+      (λ (e : (eqb (p b) w && member B b c) ≡ false). omega (arith, tally-miss (B .books) b (λ j. eqb (p j) w && member B j c) lb e))
+      (cases-bool (eqb (p b) w && member B b c))
+
+  bit-le : (t : Bool) → bit t ≤ 1
+  bit-le true = omega arith
+  bit-le false = omega arith
+
+  -- no count rises above the number of books
+  holed-le : (p f : ℕ → ℕ) (b v w c : ℕ) → b < B .books → w < B .weekends → c < B .classes → Holed B p f b v → f (node w c) ≤ 120
+  holed-le p f b v w c lb lw lc h = omega (arith, s .books, h w c lw lc, rest-lt p b w c lb, bit-le (covers (B .parent) v w c))
+
+  -- below a hole one more fits
+  holed-room : (p f : ℕ → ℕ) (b w c : ℕ) → b < B .books → w < B .weekends → c < B .classes → Holed B p f b (above (B .parent) w c) → f (node w c) < 120
+  holed-room p f b w c lb lw lc h =
+      let k₀ = covers-above (B .parent) (s .root) (B .classes) (s .classes) (s .above) w c w c lc (omega (arith, s .weekends)) in
+      let o : bit (eqb w w && eqb c c) ≡ 1 = ap bit (and-from (eqb w w) (eqb c c) (eq-eqb w w refl) (eq-eqb c c refl)) in
+      omega (arith, s .books, h w c lw lc, rest-lt p b w c lb, bit-le (covers (B .parent) (node w c) w c))
+
   at-node : (w₀ c₀ w c : ℕ) → c₀ < B .classes → c < B .classes → ((bit (eqb w₀ w && eqb c₀ c) ≡ 1) × (w₀ ≡ w) × (c₀ ≡ c)) ⊎ ((bit (eqb w₀ w && eqb c₀ c) ≡ 0) × (node w c ≡ node w₀ c₀ → ⊥))
   at-node w₀ c₀ w c l k = go (cases-bool (eqb w₀ w && eqb c₀ c))
     where
@@ -134,5 +157,7 @@ hole K B s = record {
   comes-down = hole-comes-down B s;
   goes-up = hole-goes-up B s;
   counted = hole-counted B s;
+  few = holed-le B s;
+  room = holed-room B s;
   ends = hole-ends B s;
 }

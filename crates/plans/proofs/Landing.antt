@@ -1,7 +1,7 @@
 -- The walk as one theorem: there is an assignment with the book at a start, within the words, for which the labels are valid, and its whole cost is what the labels say. Assumes nothing.
 use mathlib.Core.Path.{_≡_, refl, sym, ap, ap₂, _∙_}
 use mathlib.Core.Bool.{Bool, true, cond}
-use mathlib.Core.Logic.{_⊎_, ⊎-elim}
+use mathlib.Core.Logic.{⊎-elim}
 use mathlib.Core.List.{[], _∷_}
 use Prim.Native.Nat.{ℕ, zero, suc, _+_, _-_, _*_, _≤_, _<_, _^_}
 use native.Mathlib.Omega.{arith}
@@ -20,7 +20,7 @@ use Rattle.plans.specs.Walk.{other-quotes, charged, spent, Reached, Walking}
 use Rattle.plans.proofs.Hole.{hole}
 use Rattle.plans.proofs.Optimal.{quoted-light}
 use Rattle.plans.proofs.Walk.{step-up, step-down, step-move, step-end, down-room, apart}
-use Rattle.plans.proofs.Spent.{spent-up, spent-down, spent-move, spent-whole, holed-le, quotes-light, charged-light}
+use Rattle.plans.proofs.Spent.{spent-up, spent-down, spent-move, spent-whole, quotes-light, charged-light}
 
 -- a function changed in one place
 abbrev pub put : {S : Type 0} → (ℕ → S) → ℕ → S → ℕ → S
@@ -116,7 +116,7 @@ module _ {V : Type 0} {K : Kind V} (L : Lawful K) (B : Problem V) (X : Charges V
         omega (arith, L .plus-weight (other-quotes K B b q) (charged K B X g) (omega arith))
 
     few : (q g : ℕ → ℕ) (v : ℕ) → Walks q g v → (w c : ℕ) → w < B .weekends → c < B .classes → g (node w c) ≤ 120
-    few q g v j w c lw lc = holed-le L B X fits word k into begin b lb l light rank via q g v w c lw lc (j .holed)
+    few q g v j w c lw lc = hole K B (fits .sound) .few q g b v w c lb lw lc (j .holed)
 
     from-landed : Landed p f (node (p b) (B .class b)) → Moved p word′
     unfolding law-limit

@@ -1,54 +1,29 @@
 -- What the walk spends is what the labels say. Assumes nothing.
 use mathlib.Core.Path.{_≡_, refl, sym, ap, ap₂, _∙_}
-use mathlib.Core.Bool.{Bool, true, false, cond, _&&_}
-use mathlib.Core.Logic.{_⊎_, ⊎-elim}
+use mathlib.Core.Bool.{Bool, cond}
 use mathlib.Core.List.{[], _∷_}
-use Prim.Native.Nat.{ℕ, suc, _+_, _-_, _*_, _≤_, _<_, _^_}
+use Prim.Native.Nat.{ℕ, suc, _*_, _≤_, _<_, _^_}
 use native.Mathlib.Nat.{mul-le-mul}
 use native.Mathlib.Omega.{arith}
 use lib.Dec.{eqb}
 use Rattle.std.specs.declared.option.Option.{Option}
-use Rattle.std.proofs.shelf.Tests.{cases-bool, eq-eqb, ne-eqb, and-from, cond-true, cond-false, cond-both}
+use Rattle.std.proofs.shelf.Tests.{eq-eqb, ne-eqb, cond-true, cond-false, cond-both}
 use Rattle.amounts.specs.Kind.{Kind, Lawful, law-limit}
-use Rattle.amounts.specs.Sums.{Sum, Table, weights, bit}
+use Rattle.amounts.specs.Sums.{Sum, Table, weights}
 use Rattle.amounts.proofs.Order.{plus-cancel}
-use Rattle.amounts.proofs.Numbers.{tally-le, tally-miss}
 use Rattle.amounts.proofs.Sums.{weights-le, sum-weight, sum-set}
 use Rattle.amounts.proofs.Tables.{weighs-le, table-weight, table-same, table-set}
 use Rattle.amounts.proofs.Solve.{var, _⊕_, ⊖, solve}
 use Rattle.plans.specs.declared.arcs.Arc.{Arc}
-use Rattle.plans.specs.Problem.{Problem, member, count, total}
-use Rattle.plans.specs.Residual.{node, above, Charges, Counts, covers, Holed, quoted, moving, Light-labels, Fits, whole}
+use Rattle.plans.specs.Problem.{Problem, count, total}
+use Rattle.plans.specs.Residual.{node, above, Charges, Counts, quoted, moving, Light-labels, Fits, whole}
 use Rattle.plans.specs.Walk.{other-quotes, charged, spent, Walking}
-use Rattle.plans.proofs.Hole.{hole, covers-above}
+use Rattle.plans.proofs.Hole.{hole}
 use Rattle.plans.proofs.Optimal.{quoted-light}
 
 module _ {V : Type 0} {K : Kind V} (L : Lawful K) (B : Problem V) (X : Charges V) (fits : Fits K B X) (word : ℕ → ℕ → Bool) (k : ℕ) (into : ℕ → Bool) (begin : ℕ → V) (b : ℕ) (lb : b < B .books) (l : ℕ → V) (light : Light-labels K B l) (rank : ℕ → ℕ) (via : ℕ → Option Arc) where
   abbrev Walks : (ℕ → ℕ) → (ℕ → ℕ) → ℕ → Type 0
   Walks p f v = Walking K B X word k into begin l rank via b p f v
-
-  -- the other books are fewer than all
-  rest-lt : (p : ℕ → ℕ) (w c : ℕ) → count B p w c < B .books + bit (eqb (p b) w && member B b c)
-  unfolding count
-  rest-lt p w c = ⊎-elim
-      (λ (e : (eqb (p b) w && member B b c) ≡ true). omega (arith, ap bit e, tally-le (B .books) (λ j. eqb (p j) w && member B j c)))
-      (λ (e : (eqb (p b) w && member B b c) ≡ false). omega (arith, tally-miss (B .books) b (λ j. eqb (p j) w && member B j c) lb e))
-      (cases-bool (eqb (p b) w && member B b c))
-
-  bit-le : (t : Bool) → bit t ≤ 1
-  bit-le true = omega arith
-  bit-le false = omega arith
-
-  -- no count rises above the number of books
-  pub holed-le : (p f : ℕ → ℕ) (v w c : ℕ) → w < B .weekends → c < B .classes → Holed B p f b v → f (node w c) ≤ 120
-  holed-le p f v w c lw lc h = omega (arith, fits .sound .books, h w c lw lc, rest-lt p w c, bit-le (covers (B .parent) v w c))
-
-  -- below a hole one more fits
-  pub holed-room : (p f : ℕ → ℕ) (w c : ℕ) → w < B .weekends → c < B .classes → Holed B p f b (above (B .parent) w c) → f (node w c) < 120
-  holed-room p f w c lw lc h =
-      let s = covers-above (B .parent) (fits .sound .root) (B .classes) (fits .sound .classes) (fits .sound .above) w c w c lc (omega (arith, fits .sound .weekends)) in
-      let o : bit (eqb w w && eqb c c) ≡ 1 = ap bit (and-from (eqb w w) (eqb c c) (eq-eqb w w refl) (eq-eqb c c refl)) in
-      omega (arith, fits .sound .books, h w c lw lc, rest-lt p w c, bit-le (covers (B .parent) (node w c) w c))
 
   abbrev pub Few : (ℕ → ℕ) → Type 0
   Few f = (w c : ℕ) → w < B .weekends → c < B .classes → f (node w c) ≤ 120
@@ -135,8 +110,8 @@ module _ {V : Type 0} {K : Kind V} (L : Lawful K) (B : Problem V) (X : Charges V
     unfolding law-limit
     spent-up =
         let q = quotes-light p (i .sent) in
-        let few : (w c : ℕ) → w < B .weekends → c < B .classes → f (node w c) ≤ 120 = λ w c hw hc. holed-le p f v w c hw hc (i .holed) in
-        let few′ : (w c : ℕ) → w < B .weekends → c < B .classes → g (node w c) ≤ 120 = λ w c hw hc. holed-le p g (node w₀ c₀) w c hw hc (j .holed) in
+        let few : (w c : ℕ) → w < B .weekends → c < B .classes → f (node w c) ≤ 120 = λ w c hw hc. hole K B (fits .sound) .few p f b v w c lb hw hc (i .holed) in
+        let few′ : (w c : ℕ) → w < B .weekends → c < B .classes → g (node w c) ≤ 120 = λ w c hw hc. hole K B (fits .sound) .few p g b (node w₀ c₀) w c lb hw hc (j .holed) in
         let t = charged-light f few in
         let r = fits .convex w₀ c₀ lw lc .rise-light (f (node w₀ c₀)) in
         let n = light (node w₀ c₀) in
@@ -150,8 +125,8 @@ module _ {V : Type 0} {K : Kind V} (L : Lawful K) (B : Problem V) (X : Charges V
     unfolding law-limit
     spent-down =
         let q = quotes-light p (i .sent) in
-        let few : (w c : ℕ) → w < B .weekends → c < B .classes → f (node w c) ≤ 120 = λ w c hw hc. holed-le p f v w c hw hc (i .holed) in
-        let few′ : (w c : ℕ) → w < B .weekends → c < B .classes → g (node w c) ≤ 120 = λ w c hw hc. holed-le p g (above (B .parent) w₀ c₀) w c hw hc (j .holed) in
+        let few : (w c : ℕ) → w < B .weekends → c < B .classes → f (node w c) ≤ 120 = λ w c hw hc. hole K B (fits .sound) .few p f b v w c lb hw hc (i .holed) in
+        let few′ : (w c : ℕ) → w < B .weekends → c < B .classes → g (node w c) ≤ 120 = λ w c hw hc. hole K B (fits .sound) .few p g b (above (B .parent) w₀ c₀) w c lb hw hc (j .holed) in
         let t = charged-light g few′ in
         let x = fits .convex w₀ c₀ lw lc in
         let m = g (node w₀ c₀) in
@@ -166,7 +141,7 @@ module _ {V : Type 0} {K : Kind V} (L : Lawful K) (B : Problem V) (X : Charges V
     pub spent-move : K .plus (spent K B X b q f) (l (node (p j₀) (B .class j₀))) ≡ K .plus (spent K B X b p f) (l v)
     unfolding law-limit
     spent-move =
-        let few : (w c : ℕ) → w < B .weekends → c < B .classes → f (node w c) ≤ 120 = λ w c hw hc. holed-le p f v w c hw hc (i .holed) in
+        let few : (w c : ℕ) → w < B .weekends → c < B .classes → f (node w c) ≤ 120 = λ w c hw hc. hole K B (fits .sound) .few p f b v w c lb hw hc (i .holed) in
         let t = charged-light f few in
         let n = light (node (p j₀) (B .class j₀)) in
         let a = quotes-light p (i .sent) in

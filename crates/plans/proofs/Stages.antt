@@ -2,7 +2,7 @@
 use mathlib.Core.Path.{_≡_, sym, ap₂, _∙_}
 use mathlib.Core.Bool.{Bool}
 use mathlib.Core.Logic.{_⊎_, inl, inr, ⊎-elim}
-use Prim.Native.Nat.{ℕ, suc, _-_, _<_}
+use Prim.Native.Nat.{ℕ, suc, _<_}
 use native.Mathlib.Omega.{arith}
 use Rattle.std.proofs.shelf.Tests.{cases-eq}
 use Rattle.amounts.specs.Kind.{Kind}
@@ -10,7 +10,7 @@ use Rattle.plans.specs.declared.arcs.Arc.{Arc}
 use Rattle.plans.specs.declared.arcs.Arc.the-variants.{Rise, Fall, Move}
 use Rattle.plans.specs.Problem.{Problem}
 use Rattle.plans.specs.Theorems.{Sound}
-use Rattle.plans.specs.Residual.{node, Live, tail}
+use Rattle.plans.specs.Residual.{Live, tail}
 use Rattle.plans.specs.Search.{nodes, stage, stages, Staged}
 
 module _ {V : Type 0} {K : Kind V} (B : Problem V) (sound : Sound K B) (word : ℕ → ℕ → Bool) (p : ℕ → ℕ) where

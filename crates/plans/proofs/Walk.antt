@@ -1,9 +1,9 @@
 -- Each step of the walk keeps the hole, the labels' validity, and the tightness of the arcs ahead. Assumes nothing.
 use mathlib.Core.Path.{_≡_, refl, sym, ap, subst, subst₂, _∙_}
-use mathlib.Core.Bool.{Bool, true, not}
-use mathlib.Core.Logic.{_⊎_, inr, ⊎-elim}
+use mathlib.Core.Bool.{Bool, true}
+use mathlib.Core.Logic.{inr, ⊎-elim}
 use mathlib.Core.List.{[], _∷_}
-use Prim.Native.Nat.{ℕ, zero, suc, _-_, _≤_, _<_, _^_}
+use Prim.Native.Nat.{ℕ, zero, suc, _≤_, _<_, _^_}
 use native.Mathlib.Omega.{arith}
 use Rattle.std.specs.declared.option.Option.{Option}
 use Rattle.std.specs.declared.option.Option.the-variants.{Some, None}
@@ -12,7 +12,7 @@ use Rattle.amounts.specs.Kind.{Kind, Lawful, law-limit, AtMost}
 use Rattle.amounts.proofs.Solve.{var, _⊕_, ⊖, linear}
 use Rattle.plans.specs.declared.arcs.Arc.{Arc}
 use Rattle.plans.specs.declared.arcs.Arc.the-variants.{Rise, Fall, Move}
-use Rattle.plans.specs.Problem.{Problem, count}
+use Rattle.plans.specs.Problem.{Problem}
 use Rattle.plans.specs.Residual.{node, above, Charges, Counts, Holed, Inside, quoted, moving, Light-labels, Fits, Valid}
 use Rattle.plans.specs.Walk.{Reached, Walking}
 use Rattle.plans.proofs.Hole.{hole}

@@ -76,6 +76,9 @@ module _ {V : Type 0} (K : Kind V) where
     pub goes-up : (p f g : ℕ → ℕ) (b w c : ℕ) → c < B .classes → Holed B p f b (node w c) → f (node w c) ≡ suc (g (node w c)) → But-at (node w c) f g → Holed B p g b (above (B .parent) w c)
     -- where the hole is, at least one is counted
     pub counted : (p f : ℕ → ℕ) (b w c : ℕ) → b < B .books → w < B .weekends → c < B .classes → Holed B p f b (node w c) → 1 ≤ f (node w c)
+    -- no count passes the number of books, and below the hole there is room for one more
+    pub few : (p f : ℕ → ℕ) (b v w c : ℕ) → b < B .books → w < B .weekends → c < B .classes → Holed B p f b v → f (node w c) ≤ 120
+    pub room : (p f : ℕ → ℕ) (b w c : ℕ) → b < B .books → w < B .weekends → c < B .classes → Holed B p f b (above (B .parent) w c) → f (node w c) < 120
     -- b put into the hole fills it
     pub ends : (p q f : ℕ → ℕ) (b x : ℕ) → b < B .books → Holed B p f b (node x (B .class b)) → q b ≡ x → But-for B b p q → Counts B q f
 

@@ -46,7 +46,7 @@ module _ {V : Type 0} (K : Kind V) where
     pub step : (m : ℕ) → m < top → price (suc m) ≡ K .plus (price m) (rise m)
     -- a step back is the opposite of the step
     pub back : (m : ℕ) → fall (suc m) ≡ K .minus (rise m)
-    -- the end of the scale: to have none fewer than none costs no less than the last step back
+    -- the end of the scale: where there are no members, the fall is no less than at one member
     pub first : AtMost K (fall 1) (fall 0)
     -- a rise does not get smaller
     pub grows : (m : ℕ) → AtMost K (rise m) (rise (suc m))
