@@ -18,6 +18,7 @@ pub mod Optimal
 pub mod Violations
 pub mod Hole
 pub mod Walk
+pub mod Undoing
 pub mod Spent
 pub mod Paths
 pub mod Landing

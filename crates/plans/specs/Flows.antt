@@ -9,8 +9,10 @@ use Rattle.amounts.specs.declared.ranked.Ranked.{Ranked}
 use Rattle.amounts.specs.Kind.{Kind, law-limit, AtMost}
 use Rattle.amounts.specs.Sums.{copies}
 use Rattle.plans.specs.declared.arcs.Arc.{Arc}
+use Rattle.plans.specs.declared.arcs.Arc.the-variants.{Rise, Fall, Move}
 use Rattle.plans.specs.Problem.{Problem, Plan, No-plan, is-open, total}
 use Rattle.plans.specs.Soft.{fine, rise, fall, soft-kind, violation, Convex, softened, violations, score}
+use Rattle.plans.specs.Walk.{Walking}
 use Rattle.plans.specs.Search.{nodes, Start, Searchable, Before, Searching, Last, Seeks, stage, stages, Staged}
 use Rattle.plans.specs.Residual.{Live, head, tail, quoted, arc-cost, Fits, node, above, Charges, Counts, Holed, But-for, But-at, Inside, Light-labels, Convex-charges, Valid, whole}
 use Rattle.plans.specs.Theorems.{Sound}
@@ -137,6 +139,28 @@ module _ {V : Type 0} (K : Kind V) where
 
   abbrev pub Search : Type 0
   Search = (B : Problem V) (X : Charges V) (word : ℕ → ℕ → Bool) (k : ℕ) (into : ℕ → Bool) (begin : ℕ → V) (p f : ℕ → ℕ) (pot : ℕ → V) → Searchable K B X word k into begin p f pot → Search-kept B X word k into begin p f pot
+
+  -- the steps of the walk of the book b: each undoes the arc by which the node of the hole was reached, and takes the hole to a node of smaller rank
+  module _ (B : Problem V) (X : Charges V) (word : ℕ → ℕ → Bool) (into : ℕ → Bool) (begin l : ℕ → V) (rank : ℕ → ℕ) (via : ℕ → Option Arc) (b : ℕ) where
+    -- underway, with the hole at v
+    abbrev pub Underway : (ℕ → ℕ) → (ℕ → ℕ) → ℕ → Type 0
+    Underway p f v = Walking K B X word (B .class b) into begin l rank via b p f v
+
+    pub record Walk-kept : Type 0 where
+      -- an arc up is undone: one more at its node
+      pub undoes-rise : (p f g : ℕ → ℕ) (v w c : ℕ) → Underway p f v → via v ≡ Some (Rise w c) → g (node w c) ≡ suc (f (node w c)) → But-at (node w c) f g → Underway p g (node w c) × (rank (node w c) < rank v)
+      -- an arc down is undone: one fewer at its node
+      pub undoes-fall : (p f g : ℕ → ℕ) (v w c : ℕ) → Underway p f v → via v ≡ Some (Fall w c) → f (node w c) ≡ suc (g (node w c)) → But-at (node w c) f g → Underway p g (above (B .parent) w c) × (rank (above (B .parent) w c) < rank v)
+      -- a move is undone: the book j goes into the hole
+      pub undoes-move : (p q f : ℕ → ℕ) (v j x : ℕ) → Underway p f v → via v ≡ Some (Move j x) → q j ≡ x → But-for B j p q → Underway q f (node (p j) (B .class j)) × (rank (node (p j) (B .class j)) < rank v)
+      -- the hole is at a start: b goes into it, the counts are those of the assignment, and the labels are valid for it with `into` for the word of b
+      pub ends : (p q f : ℕ → ℕ) (v x : ℕ) (word′ : ℕ → ℕ → Bool) → Underway p f v → via v ≡ None → v ≡ node x (B .class b) → q b ≡ x → But-for B b p q →
+          ((x : ℕ) → x < B .weekends → K .weight (begin x) ≤ 10 ^ 9) → ((x : ℕ) → x < B .weekends → into x ≡ true → AtMost K (l (node x (B .class b))) (begin x)) →
+          ((x y : ℕ) → x < B .weekends → y < B .weekends → into x ≡ true → into y ≡ true → K .plus (begin x) (quoted K B b y) ≡ K .plus (begin y) (quoted K B b x)) →
+          ((x : ℕ) → word′ b x ≡ into x) → ((j x : ℕ) → (j ≡ b → ⊥) → word′ j x ≡ word j x) → Counts B q f × Inside B word′ q × Valid K B X word′ l q f
+
+  abbrev pub Walk : Type 0
+  Walk = (B : Problem V) (X : Charges V) (word : ℕ → ℕ → Bool) (into : ℕ → Bool) (begin l : ℕ → V) (rank : ℕ → ℕ) (via : ℕ → Option Arc) (b : ℕ) → Fits K B X → Light-labels K B l → b < B .books → Walk-kept B X word into begin l rank via b
 
   -- what a search from the class of b and the walk back give: an assignment with b at one of its new weekends
   pub record Reassigned (B : Problem V) (X : Charges V) (word : ℕ → ℕ → Bool) (begin d : ℕ → V) (p : ℕ → ℕ) (b : ℕ) : Type 0 where

@@ -1,5 +1,5 @@
 // Theorems that a search for a least plan stands on, over any kind of amounts. Each function has theorems for its contract and does nothing else.
-ghost use Rattle.plans.specs.Flows.{Soft-convex, Subgradient, Least-by-labels, Least-in-score, Labels-settle, Hole, Soft-fits, Cold-valid, Search, Reassigns};
+ghost use Rattle.plans.specs.Flows.{Soft-convex, Subgradient, Least-by-labels, Least-in-score, Labels-settle, Hole, Soft-fits, Cold-valid, Search, Walk, Reassigns};
 use amounts::Amount;
 
 // The prices of soft bounds are convex, with violations before amounts; and an entry between the last step and the next is a subgradient of
@@ -22,11 +22,12 @@ pub fn hole_stands<X: Amount>()
     ensures { λ _. ⌜ Hole (X·Amount .kind) ⌝ }
 {}
 
-// A search may begin from any assignment, its steps keep its invariant, and where it ends, the walk back takes the book to its new place: the labels that were
+// A search may begin from any assignment, its steps keep its invariant, and so do those of the walk; where the search ends, the walk back takes the book to its new place: the labels that were
 // found are valid for the assignment that comes of it, so that is least, and they say what it costs.
 pub fn searches_stand<X: Amount>()
     ensures soft { λ _. ⌜ Soft-fits (X·Amount .kind) ⌝ }
     ensures cold { λ _. ⌜ Cold-valid (X·Amount .kind) ⌝ }
     ensures kept { λ _. ⌜ Search (X·Amount .kind) ⌝ }
+    ensures walked { λ _. ⌜ Walk (X·Amount .kind) ⌝ }
     ensures reassigned { λ _. ⌜ Reassigns (X·Amount .kind) ⌝ }
 {}
