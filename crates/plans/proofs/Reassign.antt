@@ -2,21 +2,29 @@
 use mathlib.Core.Path.{_≡_, refl, sym, subst}
 use Rattle.amounts.specs.Kind.{Kind, Lawful}
 use Rattle.plans.specs.Residual.{node, quoted, whole}
-use Rattle.plans.specs.Flows.{Reassigns}
+use Rattle.plans.specs.Flows.{Search-ends, Reassigns}
 use Rattle.plans.proofs.Optimal.{least-by-labels}
-use Rattle.plans.proofs.Ends.{found-light, found-starts, walk-begins}
+use Rattle.plans.proofs.Ends.{found-light, found-valid, found-starts, walk-begins}
 use Rattle.plans.proofs.Landing.{moved}
 
 module _ {V : Type 0} {K : Kind V} (L : Lawful K) where
+  pub search-ends : Search-ends K
+  search-ends B X word b into begin p f pot lb inside counts g x₀ lx ix t d seen rank via i ended =
+      let k = B .class b in
+      let lk = g .fits .sound .classed b lb in
+      record {
+        light = found-light L B X word k lk into begin p f pot g t d seen rank via i ended x₀ lx ix;
+        valid = found-valid L B X word k lk into begin p f pot g t d seen rank via i ended x₀ lx ix;
+        starts = found-starts L B X word k lk into begin p f pot g t d seen rank via i ended x₀ lx ix;
+        underway = walk-begins L B X word k lk into begin p f pot g t d seen rank via i ended x₀ lx ix b lb counts (inside .meets);
+      }
+
   pub reassigns : Reassigns K
   reassigns B X word b into begin p f pot lb inside counts g even x₀ lx ix t d seen rank via i ended word′ mine theirs =
-      let k = B .class b in
       let fits = g .fits in
-      let lk = fits .sound .classed b lb in
-      let light = found-light L B X word k lk into begin p f pot g t d seen rank via i ended x₀ lx ix in
-      let walk = walk-begins L B X word k lk into begin p f pot g t d seen rank via i ended x₀ lx ix b lb counts (inside .meets) in
-      let starts = found-starts L B X word k lk into begin p f pot g t d seen rank via i ended x₀ lx ix in
-      let m = moved L B X fits word k into begin b lb d light rank via p f word′ refl counts walk starts even (g .begins) mine theirs in
+      let found = search-ends B X word b into begin p f pot lb inside counts g x₀ lx ix t d seen rank via i ended in
+      let light = found .light in
+      let m = moved L B X fits word (B .class b) into begin b lb d light rank via p f word′ refl counts (found .underway) (found .starts) even (g .begins) mine theirs in
       record {
         assignment = m .plan;
         counts = m .counts;

@@ -162,6 +162,19 @@ module _ {V : Type 0} (K : Kind V) where
   abbrev pub Walk : Type 0
   Walk = (B : Problem V) (X : Charges V) (word : ℕ → ℕ → Bool) (into : ℕ → Bool) (begin l : ℕ → V) (rank : ℕ → ℕ) (via : ℕ → Option Arc) (b : ℕ) → Fits K B X → Light-labels K B l → b < B .books → Walk-kept B X word into begin l rank via b
 
+  -- where a search from the class of b has ended, its labels are light and valid, those of the starts have not grown, and the walk of b may begin
+  pub record Search-ended (B : Problem V) (X : Charges V) (word : ℕ → ℕ → Bool) (into : ℕ → Bool) (begin d : ℕ → V) (rank : ℕ → ℕ) (via : ℕ → Option Arc) (p f : ℕ → ℕ) (b : ℕ) : Type 0 where
+    pub light : Light-labels K B d
+    pub valid : Valid K B X word d p f
+    pub starts : (x : ℕ) → x < B .weekends → into x ≡ true → AtMost K (d (node x (B .class b))) (begin x)
+    pub underway : Underway B X word into begin d rank via b p f (node (p b) (B .class b))
+
+  abbrev pub Search-ends : Type 0
+  Search-ends = (B : Problem V) (X : Charges V) (word : ℕ → ℕ → Bool) (b : ℕ) (into : ℕ → Bool) (begin : ℕ → V) (p f : ℕ → ℕ) (pot : ℕ → V) → b < B .books → Inside B word p → Counts B p f → Searchable K B X word (B .class b) into begin p f pot →
+      (x₀ : ℕ) → x₀ < B .weekends → into x₀ ≡ true →
+      (t : ℕ) (d : ℕ → V) (seen : ℕ → Bool) (rank : ℕ → ℕ) (via : ℕ → Option Arc) → Seeks K B X word (B .class b) into begin p f pot t d seen rank via → ((v : ℕ) → seen v ≡ true → rank v < nodes) →
+      Search-ended B X word into begin d rank via p f b
+
   -- what a search from the class of b and the walk back give: an assignment with b at one of its new weekends
   pub record Reassigned (B : Problem V) (X : Charges V) (word : ℕ → ℕ → Bool) (begin d : ℕ → V) (p : ℕ → ℕ) (b : ℕ) : Type 0 where
     pub assignment : ℕ → ℕ

@@ -1,5 +1,5 @@
 // Theorems that a search for a least plan stands on, over any kind of amounts. Each function has theorems for its contract and does nothing else.
-ghost use Rattle.plans.specs.Flows.{Soft-convex, Subgradient, Least-by-labels, Least-in-score, Labels-settle, Hole, Soft-fits, Cold-valid, Search, Walk, Reassigns};
+ghost use Rattle.plans.specs.Flows.{Soft-convex, Subgradient, Least-by-labels, Least-in-score, Labels-settle, Hole, Soft-fits, Cold-valid, Search, Search-ends, Walk, Reassigns};
 use amounts::Amount;
 
 // The prices of soft bounds are convex, with violations before amounts; and an entry between the last step and the next is a subgradient of
@@ -28,6 +28,7 @@ pub fn searches_stand<X: Amount>()
     ensures soft { λ _. ⌜ Soft-fits (X·Amount .kind) ⌝ }
     ensures cold { λ _. ⌜ Cold-valid (X·Amount .kind) ⌝ }
     ensures kept { λ _. ⌜ Search (X·Amount .kind) ⌝ }
+    ensures ended { λ _. ⌜ Search-ends (X·Amount .kind) ⌝ }
     ensures walked { λ _. ⌜ Walk (X·Amount .kind) ⌝ }
     ensures reassigned { λ _. ⌜ Reassigns (X·Amount .kind) ⌝ }
 {}
