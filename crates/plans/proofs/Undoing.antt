@@ -1,13 +1,12 @@
 -- The steps of the walk, arc by arc. Assumes nothing.
-use mathlib.Core.Path.{_≡_, refl, sym, subst}
-use Prim.Native.Nat.{ℕ, _+_, _*_, _≤_, _<_}
+use mathlib.Core.Path.{_≡_, refl, subst}
+use Prim.Native.Nat.{ℕ}
 use native.Mathlib.Omega.{arith}
 use Rattle.std.specs.declared.option.Option.{Option}
 use Rattle.std.specs.declared.option.Option.the-variants.{Some, None}
 use Rattle.amounts.specs.Kind.{Kind, Lawful}
 use Rattle.plans.specs.declared.arcs.Arc.{Arc}
 use Rattle.plans.specs.declared.arcs.Arc.the-variants.{Rise, Fall, Move}
-use Rattle.plans.specs.Residual.{node}
 use Rattle.plans.specs.Walk.{Reached}
 use Rattle.plans.specs.Flows.{Walk, Underway}
 use Rattle.plans.proofs.Walk.{step-up, step-down, step-move, step-end}
