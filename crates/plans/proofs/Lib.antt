@@ -13,6 +13,7 @@ pub mod Rereading
 pub mod Coined
 pub mod Posing
 pub mod Soft
+pub mod Rises
 pub mod Subgradient
 pub mod Optimal
 pub mod Violations

@@ -9,6 +9,7 @@ mod floors;
 mod flow_promises;
 mod free_source;
 mod heads;
+mod network;
 mod promises;
 mod tolls;
 
@@ -25,6 +26,9 @@ pub use flow_promises::labels_stand;
 pub use flow_promises::searches_stand;
 pub use flow_promises::soft_bounds_stand;
 pub use heads::head_accepts;
+pub use network::fall;
+pub use network::rise;
+pub use network::violation;
 pub use promises::checks_stand;
 pub use promises::counts_stand;
 pub use promises::duality_stands;
