@@ -1,5 +1,7 @@
 // Amounts: values that are summed and compared, of kinds that a caller may choose or add.
 // The laws of a kind hold for amounts that are light enough; docs/amounts.md says each of them in words.
+#![tactic(auto)]
+
 ghost use Rattle.std.specs.Prelude.{◌≡◌};
 ghost use Rattle.amounts.specs.Kind.{Kind, Lawful};
 

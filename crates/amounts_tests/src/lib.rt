@@ -1,4 +1,6 @@
 // Tests of the crate `amounts`: the edges of money, ranked amounts, copies and totals.
+#![tactic(auto)]
+
 #[cfg(test)]
 mod money;
 #[cfg(test)]

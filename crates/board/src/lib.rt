@@ -1,4 +1,6 @@
 // The standing board: what a planner's calls make of it, and what it answers.
+#![tactic(auto)]
+
 mod call;
 mod desk;
 mod playing;

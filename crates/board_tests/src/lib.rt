@@ -1,4 +1,6 @@
 // Tests of the crate `board`: the calls that change it, their refusals, both checks, and runs of calls.
+#![tactic(auto)]
+
 #[cfg(test)]
 mod calls;
 #[cfg(test)]

@@ -1,4 +1,6 @@
 // The solver for callers in C and Rust: the oracle compares it with other programs.
+#![tactic(auto)]
+
 use amounts::Money;
 use plans::{Bounds, Roster};
 use solver::{Solution, solve};

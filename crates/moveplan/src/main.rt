@@ -1,4 +1,6 @@
 // Reads a plan file on standard input, and prints its report.
+#![tactic(auto)]
+
 use anyhow::anyhow;
 use planfile::report;
 use std::io::{Read, Write};

@@ -1,5 +1,7 @@
 // The plan file: records of 16 bytes that name a firm's classes, weekends, books, bounds, quotes and limit.
 // `read` hands out what a sound file describes, or says where a faulty one is wrong; `report` puts the answer into lines of text.
+#![tactic(auto)]
+
 mod fields;
 mod pen;
 mod progress;

@@ -1,4 +1,6 @@
 // The crate `planfile` on whole files. These tests are a crate of their own, since a crate with tests is proved a second time for them.
+#![tactic(auto)]
+
 #[cfg(test)]
 mod files;
 #[cfg(test)]

@@ -1,4 +1,6 @@
 // Planning problems: what plans there are and what they come to; the sheets that show that there is none; both checks.
+#![tactic(auto)]
+
 mod arcs;
 mod assignments;
 mod bound_table;

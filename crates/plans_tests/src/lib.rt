@@ -1,4 +1,6 @@
 // Tests of the crate `plans` on one small board, which is tried in full too.
+#![tactic(auto)]
+
 mod six_quotes;
 mod worked;
 

@@ -1,4 +1,6 @@
 // The search for a least plan: assignments under soft bounds, labels that show them least, and the solver.
+#![tactic(auto)]
+
 mod arcs;
 mod augmenting;
 mod counts;

@@ -1,4 +1,6 @@
 // Where quotes come from: tables and tariffs that are lent, and layers over any source.
+#![tactic(auto)]
+
 mod counting;
 mod meaning;
 mod quote_table;

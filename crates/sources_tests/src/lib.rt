@@ -1,4 +1,6 @@
 // Tests of the crate `sources`: the edges of each rule, and piles of layers.
+#![tactic(auto)]
+
 #[cfg(test)]
 mod layers;
 #[cfg(test)]
