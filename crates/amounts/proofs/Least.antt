@@ -1,9 +1,9 @@
 -- The least of the values that pass a test: it is one of them, and at most each of them. Assumes nothing.
-use Rattle.std.proofs.Common.{◌≡◌, ℕ, zero, suc, ◌*◌, ◌<◌, ◌≤◌, Bool, true, false, cond, ◌⊎◌, Some, None, Option, sym, refl, subst, inr, ⊎_elim, arith}
+use Rattle.std.proofs.Common.{◌≡◌, ℕ, zero, suc, ◌*◌, ◌<◌, ◌≤◌, Bool, true, false, cond, Some, None, Option, sym, refl, subst, inr, ⊎_elim, arith}
 use Rattle.std.proofs.lemmas.Bool.{cases_eq, both_ways}
 use Rattle.amounts.specs.Kind.{Kind, Lawful, law_limit, AtMost, smaller}
 use Rattle.amounts.specs.Least.{least_of, better, or_none}
-use Rattle.amounts.specs.Order.{at_most_trans, at_most_both, smaller_left, smaller_right, picked_either}
+use Rattle.amounts.proofs.Order.{at_most_trans, at_most_both, smaller_left, smaller_right, picked_either}
 
 -- what holds below n and at n holds below suc n
 below_suc : (P : ℕ → Type 0) (n : ℕ) → ((w : ℕ) → w < n → P w) → P n → (w : ℕ) → w < suc n → P w

@@ -4,9 +4,9 @@ use mathlib.Core.List.{Permᴰ}
 use Rattle.amounts.specs.Kind.{Kind, Lawful, law_limit}
 use Rattle.amounts.specs.Sums.{weights, item, total, load}
 use Rattle.amounts.specs.Promises.{PermutationKeepsTotal, OrderCarriesToTotals}
-use Rattle.amounts.specs.Order.{plus_front}
-use Rattle.amounts.specs.Numbers.{sum_n_first}
-use Rattle.amounts.specs.SumsLemmas.{sum_weight, sum_first, sum_at_most}
+use Rattle.amounts.proofs.Order.{plus_front}
+use Rattle.amounts.proofs.Numbers.{sum_n_first}
+use Rattle.amounts.proofs.Sums.{sum_weight, sum_first, sum_at_most}
 
 pub load_cons : {V : Type 0} (K : Kind V) (x : V) (xs : List V) → load K (x ∷ xs) ≡ K.weight x + load K xs
 load_cons K x xs = sum_n_first (length xs) (λ i. K.weight (item K (x ∷ xs) i))

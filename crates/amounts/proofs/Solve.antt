@@ -5,7 +5,7 @@
 use Rattle.std.proofs.Common.{◌≡◌, ℕ, ◌+◌, ◌*◌, ◌≤◌, Bool, true, false, cond, not, eqb, ltb, List, [], ◌∷◌, get_or, Less, sym, refl, ap, ◌∙◌, ap₂, inr, arith}
 use Rattle.std.proofs.lemmas.Bool.{eqb-true}
 use Rattle.amounts.specs.Kind.{Kind, Lawful, law_limit, AtMost}
-use Rattle.amounts.specs.Order.{unit_left, plus_front, front_cancel, minus_front_cancel, minus_none, minus_minus, minus_plus, plus_cancel, less_then_at_most, plus_at_most, plus_at_most_left, plus_at_most_right, at_most_unshift, plus_less_left, less_unshift}
+use Rattle.amounts.proofs.Order.{unit_left, plus_front, front_cancel, minus_front_cancel, minus_none, minus_minus, minus_plus, plus_cancel, less_then_at_most, plus_at_most, plus_at_most_left, plus_at_most_right, at_most_unshift, plus_less_left, less_unshift}
 
 infixl 60 ◌⊕◌
 -- a sum over the amounts of a list, by their places

@@ -1,6 +1,6 @@
 // Money, counted in the smallest coin.
 ghost use Rattle.amounts.specs.Models.{money_kind};
-ghost use Rattle.amounts.specs.Coins.{money_lawful};
+ghost use Rattle.amounts.specs.MoneyLaws.{money_lawful};
 
 use super::Amount;
 use std::cmp::Ordering;

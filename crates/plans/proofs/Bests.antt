@@ -4,7 +4,7 @@ use Rattle.std.specs.Ordering.{is_le}
 use Rattle.std.proofs.lemmas.Bool.{both_ways}
 use Rattle.amounts.specs.Kind.{Kind, Lawful, law_limit, AtMost, smaller}
 use Rattle.amounts.specs.Least.{better}
-use Rattle.amounts.specs.Order.{picked_either, at_most_trans, at_most_both, at_most_from_le, le_from_at_most, smaller_left, smaller_right}
+use Rattle.amounts.proofs.Order.{picked_either, at_most_trans, at_most_both, at_most_from_le, le_from_at_most, smaller_left, smaller_right}
 use Rattle.plans.specs.Problem.{Problem, Plan, NoPlan, total, Within, Least, Dear}
 use Rattle.plans.specs.Trials.{assignments, sends, is_plan, least_among, least_total, Answer, best, no_plan, dear, judged, best_answer}
 use Rattle.plans.specs.Theorems.{Iff, Sound, BestIs, OneOfThree}

@@ -3,8 +3,8 @@ use Rattle.std.proofs.Common.{◌≡◌, ℕ, zero, suc, ◌*◌, ◌^◌, ◌<�
 use Rattle.std.proofs.lemmas.Bool.{eqb-true, eq-eqb, ne_eqb, or_cases, or_left, or_right}
 use Rattle.amounts.specs.Kind.{Kind, Lawful, law_limit}
 use Rattle.amounts.specs.Sums.{sum_below, weights}
-use Rattle.amounts.specs.Order.{cond_weight, cond_apart}
-use Rattle.amounts.specs.SumsLemmas.{weights_le, sum_same, sum_plus, sum_pick}
+use Rattle.amounts.proofs.Order.{cond_weight, cond_apart}
+use Rattle.amounts.proofs.Sums.{weights_le, sum_same, sum_plus, sum_pick}
 use Rattle.plans.specs.Problem.{climbs, iterated, member}
 use Rattle.plans.specs.Sheets.{upward, toll}
 use Rattle.plans.specs.Theorems.{MemberIs, TollByMembers}

@@ -6,12 +6,13 @@ use Rattle.amounts.specs.Kind.{Kind, Lawful, law_limit, larger}
 use Rattle.amounts.specs.Sums.{sum_below, weights, table_sum, weighs, copies}
 use Rattle.amounts.specs.Least.{least_of, better, or_none}
 use Rattle.amounts.specs.Models.{compare_z, money, money_kind, integers}
-use Rattle.amounts.specs.Order.{larger_weight}
-use Rattle.amounts.specs.SumsLemmas.{weights_le, sum_weight, sum_same}
-use Rattle.amounts.specs.Tables.{weighs_le, table_weight, table_same}
-use Rattle.amounts.specs.Copies.{copies_weight}
+use Rattle.amounts.proofs.Order.{larger_weight}
+use Rattle.amounts.proofs.Sums.{weights_le, sum_weight, sum_same}
+use Rattle.amounts.proofs.Tables.{weighs_le, table_weight, table_same}
+use Rattle.amounts.proofs.Copies.{copies_weight}
 use Rattle.amounts.proofs.Least.{IsLeast, least_is}
-use Rattle.amounts.specs.Coins.{money_lawful, money_plus, money_minus, money_sum, money_copies, money_table, money_smaller, money_larger}
+use Rattle.amounts.specs.MoneyLaws.{money_lawful}
+use Rattle.amounts.proofs.Coins.{money_plus, money_minus, money_sum, money_copies, money_table, money_smaller, money_larger}
 use Rattle.plans.specs.Problem.{Problem, is_open}
 use Rattle.plans.specs.Sheets.{goes, stranded, upward, toll, cost, cheapest, ceiling, floor, accepts, counted, recounted, heads}
 use Rattle.plans.proofs.Below.{some_same, least_same}

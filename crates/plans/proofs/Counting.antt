@@ -2,11 +2,11 @@
 use Rattle.std.proofs.Common.{◌≡◌, ℕ, zero, suc, ◌*◌, ◌^◌, ◌<◌, ◌≤◌, Bool, cond, ◌&&◌, eqb, sym, refl, ◌∙◌, ap₂, mul-le-mul, arith}
 use Rattle.amounts.specs.Kind.{Kind, Lawful, law_limit}
 use Rattle.amounts.specs.Sums.{sum_below, weights, table_sum, weighs, copies, tally}
-use Rattle.amounts.specs.Order.{cond_weight}
-use Rattle.amounts.specs.Numbers.{tally_le}
-use Rattle.amounts.specs.SumsLemmas.{weights_le, sum_weight, sum_same, sum_none, sum_pick}
-use Rattle.amounts.specs.Tables.{weighs_le, table_same, table_plus, row_when}
-use Rattle.amounts.specs.Copies.{copies_weight, copies_when}
+use Rattle.amounts.proofs.Order.{cond_weight}
+use Rattle.amounts.proofs.Numbers.{tally_le}
+use Rattle.amounts.proofs.Sums.{weights_le, sum_weight, sum_same, sum_none, sum_pick}
+use Rattle.amounts.proofs.Tables.{weighs_le, table_same, table_plus, row_when}
+use Rattle.amounts.proofs.Copies.{copies_weight, copies_when}
 use Rattle.plans.specs.Problem.{member, count}
 use Rattle.plans.specs.Theorems.{DoubleCounting}
 use Rattle.plans.proofs.Climbing.{toll_by_members}

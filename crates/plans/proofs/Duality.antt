@@ -3,10 +3,10 @@ use Rattle.std.proofs.Common.{◌≡◌, ℕ, ◌+◌, ◌*◌, ◌^◌, ◌<◌
 use Rattle.amounts.specs.Kind.{Kind, Lawful, law_limit, AtMost}
 use Rattle.amounts.specs.Sums.{sum_below, weights, table_sum, weighs, copies}
 use Rattle.amounts.specs.Least.{or_none}
-use Rattle.amounts.specs.Order.{larger_weight, at_most_trans, less_then_at_most, plus_at_most_left, plus_at_most_right, plus_minus}
-use Rattle.amounts.specs.SumsLemmas.{weights_le, sum_weight, sum_same, sum_plus, sum_at_most}
-use Rattle.amounts.specs.Tables.{weighs_le, table_weight, table_same, table_at_most}
-use Rattle.amounts.specs.Copies.{copies_weight, copies_between}
+use Rattle.amounts.proofs.Order.{larger_weight, at_most_trans, less_then_at_most, plus_at_most_left, plus_at_most_right, plus_minus}
+use Rattle.amounts.proofs.Sums.{weights_le, sum_weight, sum_same, sum_plus, sum_at_most}
+use Rattle.amounts.proofs.Tables.{weighs_le, table_weight, table_same, table_at_most}
+use Rattle.amounts.proofs.Copies.{copies_weight, copies_between}
 use Rattle.amounts.proofs.Least.{Lowest, lowest}
 use Rattle.plans.specs.Problem.{Problem, Plan, is_open, member, count, total}
 use Rattle.plans.specs.Sheets.{toll, cost, cheapest, ceiling, floor}

@@ -4,9 +4,9 @@ use Rattle.std.specs.Ordering.{is_le}
 use Rattle.std.proofs.lemmas.Bool.{and_parts, and_from, ltb-true, lt-ltb, leb-true, le-leb, eqb-true, eq-eqb}
 use Rattle.amounts.specs.Kind.{Kind, Lawful, law_limit, AtMost}
 use Rattle.amounts.specs.Least.{or_none}
-use Rattle.amounts.specs.Order.{at_most_from_le, le_from_at_most}
-use Rattle.amounts.specs.Numbers.{tally_same}
-use Rattle.amounts.specs.SumsLemmas.{sum_same}
+use Rattle.amounts.proofs.Order.{at_most_from_le, le_from_at_most}
+use Rattle.amounts.proofs.Numbers.{tally_same}
+use Rattle.amounts.proofs.Sums.{sum_same}
 use Rattle.plans.specs.Problem.{Problem, Plan, is_open, member, count, total, Within}
 use Rattle.plans.specs.Sheets.{each_below}
 use Rattle.plans.specs.Trials.{assignments, sends, books_fit, bounds_fit, is_plan, is_within, kept_at}

@@ -2,10 +2,10 @@
 use Rattle.std.proofs.Common.{◌≡◌, ℕ, zero, suc, ◌+◌, ◌*◌, ◌^◌, ◌<◌, ◌≤◌, Bool, ◌&&◌, eqb, [], ◌∷◌, refl, ap, ◌∙◌, mul-le-mul, arith}
 use Rattle.amounts.specs.Kind.{Kind, Lawful, law_limit, AtMost}
 use Rattle.amounts.specs.Sums.{sum_below, copies, table_sum, weights, weighs}
-use Rattle.amounts.specs.Numbers.{tally_le}
-use Rattle.amounts.specs.SumsLemmas.{weights_le, sum_weight, sum_plus, sum_at_most}
-use Rattle.amounts.specs.Tables.{weighs_le, table_weight, table_plus, table_at_most}
-use Rattle.amounts.specs.Copies.{copies_weight}
+use Rattle.amounts.proofs.Numbers.{tally_le}
+use Rattle.amounts.proofs.Sums.{weights_le, sum_weight, sum_plus, sum_at_most}
+use Rattle.amounts.proofs.Tables.{weighs_le, table_weight, table_plus, table_at_most}
+use Rattle.amounts.proofs.Copies.{copies_weight}
 use Rattle.amounts.proofs.Solve.{var, nil, ◌⊕◌, ⊖, solve, linear}
 use Rattle.plans.specs.Problem.{Problem, member, count, total}
 use Rattle.plans.specs.Sheets.{upward, toll}

@@ -3,8 +3,8 @@ use Rattle.std.proofs.Common.{◌≡◌, ℕ, suc, ◌+◌, ◌*◌, ◌^◌, �
 use Rattle.std.proofs.lemmas.Bool.{cases_eq, lt-ltb, le-ltb}
 use Rattle.amounts.specs.Kind.{Kind, Lawful, law_limit, AtMost}
 use Rattle.amounts.specs.Sums.{bit, tally}
-use Rattle.amounts.specs.Order.{at_most_trans}
-use Rattle.amounts.specs.Numbers.{tally_le, tally_miss, tally_set}
+use Rattle.amounts.proofs.Order.{at_most_trans}
+use Rattle.amounts.proofs.Numbers.{tally_le, tally_miss, tally_set}
 use Rattle.amounts.proofs.Solve.{var, ◌⊕◌, linear}
 use Rattle.plans.specs.declared.arcs.Arc.{Arc}
 use Rattle.plans.specs.declared.arcs.Arc.TheVariants.{Rise, Fall, Move}

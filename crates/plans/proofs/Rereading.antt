@@ -3,8 +3,8 @@ use Rattle.std.proofs.Common.{◌≡◌, ℕ, zero, suc, ◌<◌, ◌≤◌, ◌
 use Rattle.std.specs.Ordering.{is_lt}
 use Rattle.amounts.specs.Kind.{Kind}
 use Rattle.amounts.specs.Least.{or_none}
-use Rattle.amounts.specs.SumsLemmas.{sum_same}
-use Rattle.amounts.specs.Tables.{table_same}
+use Rattle.amounts.proofs.Sums.{sum_same}
+use Rattle.amounts.proofs.Tables.{table_same}
 use Rattle.plans.specs.Problem.{Problem, is_open}
 use Rattle.plans.specs.Sheets.{stranded, upward, toll, cost, cheapest, ceiling, ceiling_of, floor, accepts}
 use Rattle.plans.proofs.Below.{least_same}

@@ -3,9 +3,9 @@ use Rattle.std.proofs.Common.{◌≡◌, ℕ, suc, ◌*◌, ◌<◌, ◌≤◌, 
 use Rattle.std.proofs.lemmas.Bool.{cases_lt, lt-ltb, le-ltb, le-leb, lt-leb, cond_both}
 use Rattle.amounts.specs.Kind.{Kind, Lawful, law_limit, AtMost}
 use Rattle.amounts.specs.Sums.{copies}
-use Rattle.amounts.specs.Order.{at_most_trans, plus_at_most_right, plus_minus, minus_minus, minus_none}
-use Rattle.amounts.specs.Copies.{copies_weight}
-use Rattle.amounts.specs.Coins.{money_lawful}
+use Rattle.amounts.proofs.Order.{at_most_trans, plus_at_most_right, plus_minus, minus_minus, minus_none}
+use Rattle.amounts.proofs.Copies.{copies_weight}
+use Rattle.amounts.specs.MoneyLaws.{money_lawful}
 use Rattle.amounts.specs.Ranks.{ranked_lawful}
 use Rattle.plans.specs.Soft.{broken, fine, rise, fall, soft_kind, violation, Convex}
 use Rattle.plans.specs.Flows.{SoftConvex}

@@ -3,8 +3,8 @@ use Rattle.std.proofs.Common.{◌≡◌, ℕ, zero, suc, ◌+◌, ◌-◌, ◌*�
 use Rattle.std.proofs.lemmas.Bool.{cases_lt}
 use Rattle.amounts.specs.Kind.{Kind, Lawful, law_limit, AtMost}
 use Rattle.amounts.specs.Sums.{copies}
-use Rattle.amounts.specs.Order.{at_most_trans, plus_at_most, plus_turn, at_most_from_difference}
-use Rattle.amounts.specs.Copies.{copies_weight}
+use Rattle.amounts.proofs.Order.{at_most_trans, plus_at_most, plus_turn, at_most_from_difference}
+use Rattle.amounts.proofs.Copies.{copies_weight}
 use Rattle.plans.specs.Soft.{Convex}
 
 module _ {V : Type 0} {K : Kind V} (L : Lawful K) where

@@ -5,8 +5,8 @@ use Rattle.std.proofs.lemmas.Bool.{both_ways, or_cases, not-true, false≢true}
 use Rattle.amounts.specs.Kind.{Kind, Lawful, law_limit}
 use Rattle.amounts.specs.Least.{or_none}
 use Rattle.amounts.specs.Models.{integers}
-use Rattle.amounts.specs.Order.{less_not_back}
-use Rattle.amounts.specs.SumsLemmas.{sum_none}
+use Rattle.amounts.proofs.Order.{less_not_back}
+use Rattle.amounts.proofs.Sums.{sum_none}
 use Rattle.amounts.specs.Integers.{integers_lawful}
 use Rattle.plans.specs.Problem.{Problem, Plan, member, count, is_open, total, Within}
 use Rattle.plans.specs.Sheets.{goes, stranded, floor, accepts, entries, counted, heads}

@@ -5,7 +5,7 @@ use Rattle.std.proofs.lemmas.Bool.{cases_eq, cases_lt, cases_Bool, both_ways}
 use Rattle.amounts.specs.declared.money.Money.{Money}
 use Rattle.amounts.specs.declared.ranked.Ranked.{Ranked}
 use Rattle.amounts.specs.Kind.{Kind, Lawful, law_limit, AtMost}
-use Rattle.amounts.specs.Order.{at_most_from_le}
+use Rattle.amounts.proofs.Order.{at_most_from_le}
 use Rattle.sources.specs.Tables.{bit_at}
 use Rattle.plans.specs.Places.{at}
 use Rattle.plans.specs.Problem.{Problem}

@@ -4,7 +4,7 @@ use Rattle.std.proofs.lemmas.Bool.{cases_lt, cases_eq, lt-ltb, le-ltb}
 use Rattle.amounts.specs.declared.money.Money.{Money}
 use Rattle.amounts.specs.declared.ranked.Ranked.{Ranked}
 use Rattle.amounts.specs.Kind.{Kind, Lawful, law_limit, AtMost}
-use Rattle.amounts.specs.Order.{unit_left, inverse_left}
+use Rattle.amounts.proofs.Order.{unit_left, inverse_left}
 use Rattle.plans.specs.declared.class_tree.Roster.{Roster}
 use Rattle.plans.specs.declared.bound_table.Bounds.{Bounds}
 use Rattle.plans.specs.Places.{at}

@@ -3,7 +3,7 @@ use Rattle.std.proofs.Common.{◌≡◌, ℕ, zero, suc, ◌+◌, ◌*◌, ◌/�
 use Rattle.std.proofs.lemmas.Bool.{cases_Bool, eq-eqb, ne_eqb, eqb-true, eqb-false, and_cases, and_parts, and_from, and_left}
 use Rattle.amounts.specs.Kind.{Kind}
 use Rattle.amounts.specs.Sums.{bit}
-use Rattle.amounts.specs.Numbers.{tally_le, tally_miss, tally_set, tally_has}
+use Rattle.amounts.proofs.Numbers.{tally_le, tally_miss, tally_set, tally_has}
 use Rattle.plans.specs.Problem.{Problem, climbs, member, count}
 use Rattle.plans.specs.Theorems.{Sound}
 use Rattle.solver.specs.Residual.{node, sink, above, covers, Counts, Holed, ButFor, ButAt}

@@ -2,7 +2,7 @@
 use Rattle.std.proofs.Common.{◌≡◌, ℕ, zero, suc, ◌+◌, ◌-◌, ◌*◌, ◌^◌, ◌<◌, ◌≤◌, Bool, true, cond, eqb, [], ◌∷◌, Some, None, Option, sym, refl, ap, ◌∙◌, ap₂, ⊎_elim, arith}
 use Rattle.std.proofs.lemmas.Bool.{cases_eq, eq-eqb, ne_eqb, cond-true, cond-false}
 use Rattle.amounts.specs.Kind.{Kind, Lawful, law_limit, AtMost}
-use Rattle.amounts.specs.SumsLemmas.{sum_same}
+use Rattle.amounts.proofs.Sums.{sum_same}
 use Rattle.amounts.proofs.Solve.{var, ◌⊕◌, solve}
 use Rattle.solver.specs.declared.arcs.Arc.{Arc}
 use Rattle.solver.specs.declared.arcs.Arc.TheVariants.{Rise, Fall, Move}

@@ -5,7 +5,7 @@ use Rattle.std.proofs.lemmas.Bool.{both_ways}
 use Rattle.amounts.specs.declared.money.Money.{Money}
 use Rattle.amounts.specs.declared.ranked.Ranked.{Ranked}
 use Rattle.amounts.specs.Kind.{Kind, Lawful, law_limit, AtMost}
-use Rattle.amounts.specs.Order.{at_most_trans, at_most_unless_less}
+use Rattle.amounts.proofs.Order.{at_most_trans, at_most_unless_less}
 use Rattle.amounts.proofs.Solve.{var, ◌⊕◌, ⊖, linear}
 use Rattle.solver.specs.declared.searching.Keyed.{Keyed}
 use Rattle.solver.specs.Search.{nodes}

@@ -3,7 +3,7 @@ use Rattle.std.proofs.Common.{◌≡◌, ℕ, ◌+◌, ◌^◌, ◌<◌, ◌≤�
 use Rattle.std.proofs.lemmas.List.{get_or-set_same, get_or-set_other}
 use Rattle.std.proofs.lemmas.Bool.{cases_eq, eq-eqb, eqb-true, or_from, both_ways, not_from_false}
 use Rattle.amounts.specs.Sums.{bit, tally}
-use Rattle.amounts.specs.Numbers.{tally_more, tally_same, tally_le}
+use Rattle.amounts.proofs.Numbers.{tally_more, tally_same, tally_le}
 use Rattle.sources.specs.Tables.{bit_at}
 use Rattle.sources.proofs.Bits16.{set_bit, bit_none}
 use Rattle.plans.specs.declared.class_tree.Roster.{Roster}

@@ -6,7 +6,7 @@ use Rattle.amounts.specs.declared.money.Money.{Money}
 use Rattle.amounts.specs.declared.ranked.Ranked.{Ranked}
 use Rattle.amounts.specs.Kind.{Kind, Lawful, law_limit, AtMost}
 use Rattle.amounts.specs.Sums.{tally}
-use Rattle.amounts.specs.Numbers.{tally_miss}
+use Rattle.amounts.proofs.Numbers.{tally_miss}
 use Rattle.amounts.proofs.Solve.{var, ◌⊕◌, ⊖, linear}
 use Rattle.plans.specs.Places.{at}
 use Rattle.plans.specs.Problem.{Problem}

@@ -3,9 +3,9 @@ use Rattle.std.proofs.Common.{◌≡◌, ℕ, suc, ◌*◌, ◌^◌, ◌<◌, �
 use Rattle.std.proofs.lemmas.Bool.{eq-eqb, ne_eqb, cond-true, cond-false, cond_both}
 use Rattle.amounts.specs.Kind.{Kind, Lawful, law_limit}
 use Rattle.amounts.specs.Sums.{sum_below, table_sum, weights}
-use Rattle.amounts.specs.Order.{plus_cancel}
-use Rattle.amounts.specs.SumsLemmas.{weights_le, sum_weight, sum_set}
-use Rattle.amounts.specs.Tables.{weighs_le, table_weight, table_same, table_set}
+use Rattle.amounts.proofs.Order.{plus_cancel}
+use Rattle.amounts.proofs.Sums.{weights_le, sum_weight, sum_set}
+use Rattle.amounts.proofs.Tables.{weighs_le, table_weight, table_same, table_set}
 use Rattle.amounts.proofs.Solve.{var, ◌⊕◌, ⊖, solve}
 use Rattle.solver.specs.declared.arcs.Arc.{Arc}
 use Rattle.plans.specs.Problem.{Problem, count, total}

@@ -5,11 +5,12 @@ use Rattle.amounts.specs.Kind.{Kind, Lawful, law_limit, AtMost}
 use Rattle.amounts.specs.Sums.{copies, table_sum, sum_n}
 use Rattle.amounts.specs.Least.{or_none}
 use Rattle.amounts.specs.Models.{money, money_kind, ranked, integers}
-use Rattle.amounts.specs.Order.{unit_left}
-use Rattle.amounts.specs.Numbers.{sum_n_le, sum_n_one, sum_n_zero_each, sum_n_each_zero}
-use Rattle.amounts.specs.SumsLemmas.{sum_same, sum_none}
-use Rattle.amounts.specs.Copies.{sum_copies, copies_none}
-use Rattle.amounts.specs.Coins.{money_lawful, money_copies, money_at_most}
+use Rattle.amounts.proofs.Order.{unit_left}
+use Rattle.amounts.proofs.Numbers.{sum_n_le, sum_n_one, sum_n_zero_each, sum_n_each_zero}
+use Rattle.amounts.proofs.Sums.{sum_same, sum_none}
+use Rattle.amounts.proofs.Copies.{sum_copies, copies_none}
+use Rattle.amounts.specs.MoneyLaws.{money_lawful}
+use Rattle.amounts.proofs.Coins.{money_copies, money_at_most}
 use Rattle.amounts.specs.Ranks.{ranked_sum, ranked_copies, first_at_most, second_at_most}
 use Rattle.plans.specs.Problem.{Problem, Plan, member, count, total}
 use Rattle.plans.specs.Theorems.{Sound}

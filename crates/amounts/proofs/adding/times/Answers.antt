@@ -1,6 +1,6 @@
 use Rattle.std.proofs.Common.{ap, ◌∙◌, arith}
 use Rattle.amounts.specs.Sums.{copies}
-use Rattle.amounts.specs.Copies.{copies_more}
+use Rattle.amounts.proofs.Copies.{copies_more}
 use Rattle.amounts.proofs.adding.times.Goals as goal
 
 pub loop-init : goal.loop-init

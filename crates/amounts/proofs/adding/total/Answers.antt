@@ -1,7 +1,7 @@
 use Rattle.std.proofs.Common.{◌≡◌, length, ap, ◌∙◌, ap₂, arith}
 use Rattle.std.proofs.lemmas.List.{get_or_read}
 use Rattle.amounts.specs.Sums.{sum_below, item}
-use Rattle.amounts.specs.SumsLemmas.{sum_more}
+use Rattle.amounts.proofs.Sums.{sum_more}
 use Rattle.amounts.proofs.adding.total.Goals as goal
 
 pub loop-x-init : goal.loop-x-init

@@ -1,4 +1,4 @@
-use Rattle.amounts.specs.Copies.{copies_between}
+use Rattle.amounts.proofs.Copies.{copies_between}
 use Rattle.amounts.proofs.promises.bounds_stand.Goals as goal
 
 pub returns : goal.returns

@@ -1,4 +1,4 @@
-use Rattle.amounts.specs.Tables.{table_exchange}
+use Rattle.amounts.proofs.Tables.{table_exchange}
 use Rattle.amounts.proofs.promises.tables_stand.Goals as goal
 
 pub returns : goal.returns

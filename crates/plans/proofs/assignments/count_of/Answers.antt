@@ -1,6 +1,6 @@
 use Rattle.std.proofs.Common.{◌≡◌, ℕ, suc, ◌+◌, Bool, ◌&&◌, eqb, refl, ap, add-one, arith}
 use Rattle.amounts.specs.Sums.{tally, bit}
-use Rattle.amounts.specs.Numbers.{tally_le, tally_more}
+use Rattle.amounts.proofs.Numbers.{tally_le, tally_more}
 use Rattle.plans.specs.Places.{at}
 use Rattle.plans.specs.Posed.{is_member}
 use Rattle.plans.proofs.assignments.count_of.Goals as goal

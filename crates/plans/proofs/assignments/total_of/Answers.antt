@@ -1,7 +1,7 @@
 use Rattle.std.proofs.Common.{ap, ◌∙◌, ap₂}
 use Rattle.amounts.specs.Least.{or_none}
 use Rattle.amounts.specs.Sums.{sum_below}
-use Rattle.amounts.specs.SumsLemmas.{sum_more}
+use Rattle.amounts.proofs.Sums.{sum_more}
 use Rattle.plans.specs.Places.{at}
 use Rattle.plans.proofs.assignments.total_of.Goals as goal
 

@@ -1,6 +1,6 @@
 use Rattle.std.proofs.Common.{ap, ◌∙◌, ap₂, arith}
 use Rattle.amounts.specs.Sums.{sum_below, table_sum}
-use Rattle.amounts.specs.SumsLemmas.{sum_more}
+use Rattle.amounts.proofs.Sums.{sum_more}
 use Rattle.plans.specs.Posed.{bounds_ceiling}
 use Rattle.plans.proofs.floors.ceilings.Goals as goal
 

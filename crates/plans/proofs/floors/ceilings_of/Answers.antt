@@ -1,6 +1,6 @@
 use Rattle.std.proofs.Common.{ap, ◌∙◌, ap₂}
 use Rattle.amounts.specs.Sums.{sum_below}
-use Rattle.amounts.specs.SumsLemmas.{sum_more}
+use Rattle.amounts.proofs.Sums.{sum_more}
 use Rattle.plans.specs.Bounding.{bound_at}
 use Rattle.plans.specs.Posed.{bounds_ceiling}
 use Rattle.plans.specs.Sheets.{ceiling_of}

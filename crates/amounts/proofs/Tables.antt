@@ -7,9 +7,9 @@ use Rattle.std.proofs.lemmas.Bool.{cases_eq}
 use Rattle.amounts.specs.Kind.{Kind, Lawful, law_limit, AtMost}
 use Rattle.amounts.specs.Sums.{sum_below, weights, table_sum, weighs}
 use Rattle.amounts.specs.Promises.{TableByRowsOrColumns}
-use Rattle.amounts.specs.Order.{none_twice, plus_turn, plus_swap, minus_none, minus_plus, plus_at_most}
-use Rattle.amounts.specs.Numbers.{sum_n_le, sum_n_same, sum_n_exchange}
-use Rattle.amounts.specs.SumsLemmas.{weights_le, weights_same, weights_none, weights_plus, sum_weight, sum_same, sum_none, sum_plus, sum_minus, sum_at_most, sum_set}
+use Rattle.amounts.proofs.Order.{none_twice, plus_turn, plus_swap, minus_none, minus_plus, plus_at_most}
+use Rattle.amounts.proofs.Numbers.{sum_n_le, sum_n_same, sum_n_exchange}
+use Rattle.amounts.proofs.Sums.{weights_le, weights_same, weights_none, weights_plus, sum_weight, sum_same, sum_none, sum_plus, sum_minus, sum_at_most, sum_set}
 
 module _ {V : Type 0} (K : Kind V) where
   pub weighs_le : (k m n : ℕ) (f : ℕ → ℕ → V) → ((i j : ℕ) → i < m → j < n → K.weight (f i j) ≤ k) → weighs K m n f ≤ m * (n * k)

@@ -9,8 +9,8 @@ use Rattle.std.proofs.lemmas.Bool.{cases_eq}
 use Rattle.amounts.specs.Kind.{Kind, Lawful, law_limit, AtMost}
 use Rattle.amounts.specs.Sums.{sum_n, tally, sum_below, weights, copies}
 use Rattle.amounts.specs.Promises.{CopiesWithinBounds}
-use Rattle.amounts.specs.Order.{unit_left, none_twice, plus_swap, minus_none, minus_plus, at_most_trans, at_most_total, plus_at_most, plus_at_most_right, larger_left, larger_right, larger_weight}
-use Rattle.amounts.specs.SumsLemmas.{sum_weight}
+use Rattle.amounts.proofs.Order.{unit_left, none_twice, plus_swap, minus_none, minus_plus, at_most_trans, at_most_total, plus_at_most, plus_at_most_right, larger_left, larger_right, larger_weight}
+use Rattle.amounts.proofs.Sums.{sum_weight}
 
 -- a loop's step
 pub copies_more : {V : Type 0} (K : Kind V) (n : ℕ) (x : V) → K.plus (copies K n x) x ≡ copies K (n + 1) x

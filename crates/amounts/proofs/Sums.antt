@@ -9,8 +9,8 @@ use native.Mathlib.Omega.{arith}
 use Rattle.std.proofs.lemmas.Bool.{cases_eq, eq-eqb, ne_eqb, cond-true, cond-false}
 use Rattle.amounts.specs.Kind.{Kind, Lawful, law_limit, AtMost}
 use Rattle.amounts.specs.Sums.{sum_below, weights}
-use Rattle.amounts.specs.Order.{unit_left, none_twice, plus_turn, plus_swap, minus_none, minus_plus, plus_at_most}
-use Rattle.amounts.specs.Numbers.{sum_n_le, sum_n_same, sum_n_mono, sum_n_one, sum_n_first}
+use Rattle.amounts.proofs.Order.{unit_left, none_twice, plus_turn, plus_swap, minus_none, minus_plus, plus_at_most}
+use Rattle.amounts.proofs.Numbers.{sum_n_le, sum_n_same, sum_n_mono, sum_n_one, sum_n_first}
 
 module _ {V : Type 0} (K : Kind V) where
   open K use {plus, weight}
