@@ -19,21 +19,21 @@ returns-then-self-book-ne1 g c = record { pinned = sym (pair_shut _ _ _ _ _ _ _ 
 
 pub returns-then-place-self : goal.returns-then-place-self
 returns-then-place-self g c =
-    let e : c.count-weekends-weekends.result ≡ clamped 16 c.args.self.now.weekends = omega arith in
+    let e : c.count_weekends-weekends.result ≡ clamped 16 c.args.self.now.weekends = omega arith in
     record { pinned = sym (pair_past _ _ _ _ _ _ _ (rw e at c.if-place-self.true)); light = tt }
 
 pub returns-then-weight-le-HEAVIEST : goal.returns-then-weight-le-HEAVIEST
 returns-then-weight-le-HEAVIEST g c =
-    let found = slice_get-get_or c.args.self.now.quotes.now (c.args.book * c.count-weekends-weekends.result + c.args.weekend) c.index-self-place.result (omega arith) in
+    let found = slice_get-get_or c.args.self.now.quotes.now (c.args.book * c.count_weekends-weekends.result + c.args.weekend) c.index-self-place.result (omega arith) in
     record {
-      pinned = pair_light _ _ _ _ _ _ _ c.count-weekends-weekends.result (omega arith) (omega arith) (omega arith) c.if-self-book-ne1.false _ found (omega arith);
+      pinned = pair_light _ _ _ _ _ _ _ c.count_weekends-weekends.result (omega arith) (omega arith) (omega arith) c.if-self-book-ne1.false _ found (omega arith);
       light = omega arith;
     }
 
 pub returns-else-weight-le-HEAVIEST : goal.returns-else-weight-le-HEAVIEST
 returns-else-weight-le-HEAVIEST g c =
-    let found = slice_get-get_or c.args.self.now.quotes.now (c.args.book * c.count-weekends-weekends.result + c.args.weekend) c.index-self-place.result (omega arith) in
+    let found = slice_get-get_or c.args.self.now.quotes.now (c.args.book * c.count_weekends-weekends.result + c.args.weekend) c.index-self-place.result (omega arith) in
     record {
-      pinned = pair_heavy _ _ _ _ _ _ _ c.count-weekends-weekends.result (omega arith) (omega arith) (omega arith) c.if-self-book-ne1.false _ found (omega arith);
+      pinned = pair_heavy _ _ _ _ _ _ _ c.count_weekends-weekends.result (omega arith) (omega arith) (omega arith) c.if-self-book-ne1.false _ found (omega arith);
       light = tt;
     }

@@ -6,8 +6,8 @@ pub returns-then-not-opens : goal.returns-then-not-opens
 returns-then-not-opens g c =
     quote_none g.X.Amount.kind c.args.weekends c.args.weekend c.weight.result c.weight-2.result c.args.self c.weight.ensures c.weight-2.ensures (sym c.if-not-opens.ensures)
 
-pub overflow-sub-weekend : goal.overflow-sub-weekend
-overflow-sub-weekend g c =
+pub overflow_sub-weekend : goal.overflow_sub-weekend
+overflow_sub-weekend g c =
     (opened c.args.self.first c.args.self.last c.args.weekends c.weight.result c.weight-2.result c.args.weekend (sym c.if-not-opens.ensures)).low
 
 pub returns : goal.returns

@@ -10,7 +10,7 @@ returns-then-book-books g c =
     let n = clamped 120 c.args.self.now.books in let m = clamped 16 c.args.self.now.weekends in
     record {
       pinned = sym (span_outside g.X.Amount.kind c.args.self.now.spans.now n m c.args.book c.args.weekend
-          (⊎_elim (λ (h : c.count-books-books.result ≤ c.args.book). inl (omega arith)) (λ (h : (c.args.book < c.count-books-books.result) × (c.count-weekends-weekends.result ≤ c.args.weekend)). inr (omega (arith, h.1))) c.then-book-books.either));
+          (⊎_elim (λ (h : c.count_books-books.result ≤ c.args.book). inl (omega arith)) (λ (h : (c.args.book < c.count_books-books.result) × (c.count_weekends-weekends.result ≤ c.args.weekend)). inr (omega (arith, h.1))) c.then-book-books.either));
       light = tt;
     }
 
@@ -18,7 +18,7 @@ pub returns-in-Some : goal.returns-in-Some
 returns-in-Some g c =
     let found = c.in-Some.ensures.lookup in
     let a = span_answer g.X.Amount.kind g.met.X.Amount.lawful c.args.self.now.spans.now (clamped 120 c.args.self.now.books) (clamped 16 c.args.self.now.weekends)
-    c.count-weekends-weekends.result c.args.book c.args.weekend c.in-Some.span.now c.quote.result (omega arith) (omega arith) (omega arith) (omega arith) found.3.0 found.1 c.quote.ensures in
+    c.count_weekends-weekends.result c.args.book c.args.weekend c.in-Some.span.now c.quote.result (omega arith) (omega arith) (omega arith) (omega arith) found.3.0 found.1 c.quote.ensures in
     record { pinned = a.0; light = a.1 }
 
 pub returns-in-None : goal.returns-in-None
