@@ -49,7 +49,7 @@ impl<S: Source> Board<S> {
 
     // Asks for every pair of a book once: what the answers promise is then known of the table.
     fn look_at_book(&self, book: usize)
-        ensures { (w : ℕ) → w < S.Source.weeks self.now.layer.below → IfSome ((posed S.Source self.now).quote book w) (λ x. Quote-as-Amount.kind.weight x ≤ 1000000000) }
+        ensures { (w : ℕ) → w < S.Source.weeks self.now.layer.below → IfSome ((posed S.Source self.now).quote book w) (λ x. S.Quote.Amount.kind.weight x ≤ 1000000000) }
     {
         let weekends = self.layer.weekends();
         for weekend in 0..weekends {
@@ -59,7 +59,7 @@ impl<S: Source> Board<S> {
 
     // Asks for every pair once.
     fn look_at_quotes(&self)
-        ensures { (b w : ℕ) → b < S.Source.count self.now.layer.below → w < S.Source.weeks self.now.layer.below → IfSome ((posed S.Source self.now).quote b w) (λ x. Quote-as-Amount.kind.weight x ≤ 1000000000) }
+        ensures { (b w : ℕ) → b < S.Source.count self.now.layer.below → w < S.Source.weeks self.now.layer.below → IfSome ((posed S.Source self.now).quote b w) (λ x. S.Quote.Amount.kind.weight x ≤ 1000000000) }
     {
         let books = self.layer.books();
         for book in 0..books {

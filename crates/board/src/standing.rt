@@ -27,7 +27,7 @@ impl<S: Source> Board<S> {
     // No strikes, one class with every book in it, all bounds from 0 to the number of books, limit zero.
     pub fn open(source: S) -> Self
         ensures same { result.layer.below ≡ source }
-        ensures fresh { standing result ≡ opened (meaning S.Source source) Quote-as-Amount.kind }
+        ensures fresh { standing result ≡ opened (meaning S.Source source) S.Quote.Amount.kind }
     {
         let books = source.books();
         Board {

@@ -39,7 +39,7 @@ fn coins(sheet: &[i8]) -> [Money; 128]
 
 // The head check: a book has no open weekend, or the floor of the sheet, with every quote counted 0, exceeds 0. Places are as in a toll sheet.
 pub fn head_accepts<S: Source>(source: &S, roster: &Roster, bounds: &Bounds, sheet: &[i8]) -> bool
-    ensures { result ≡ the_head_accepts (problem (meaning S.Source source.now) roster.now bounds.now Quote-as-Amount.kind.none) sheet.now }
+    ensures { result ≡ the_head_accepts (problem (meaning S.Source source.now) roster.now bounds.now S.Quote.Amount.kind.none) sheet.now }
 {
     let free = FreeSource::over(source);
     let entries = coins(sheet);

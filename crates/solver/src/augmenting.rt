@@ -35,7 +35,7 @@ impl<'a, S: Source> Graph<'a, S> {
     // Undoes the arc that leads to the hole, and answers the node that it comes from: the hole is there now.
     fn undo(&self, state: &mut State, arc: Arc) -> usize
         requires { Undoable self.now.roster.now.classes state.old arc }
-        ensures next { result ≡ tail (posed_by S.Source Quote-as-Amount.kind self.now) (at state.old.sent) arc }
+        ensures next { result ≡ tail (posed_by S.Source S.Quote.Amount.kind self.now) (at state.old.sent) arc }
         ensures place { HasPlace state.old arc }
         ensures after { state.new ≡ undone state.old arc }
     {

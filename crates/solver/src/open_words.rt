@@ -9,7 +9,7 @@ use sources::Source;
 // Bit w of the word is set where the book is open at weekend w. What asking promises of the amounts is then known of all the book's pairs.
 fn open_word<S: Source>(source: &S, book: usize) -> u16
     ensures bits { (w : ℕ) → bit_at result w ≡ is_some (S.Source.table source.now book w) }
-    ensures light { (w : ℕ) → w < S.Source.weeks source.now → IfSome (S.Source.table source.now book w) (λ x. Quote-as-Amount.kind.weight x ≤ 10 ^ 9) }
+    ensures light { (w : ℕ) → w < S.Source.weeks source.now → IfSome (S.Source.table source.now book w) (λ x. S.Quote.Amount.kind.weight x ≤ 10 ^ 9) }
 {
     let mut word: u16 = 0;
     for weekend in 0..source.weekends() {
@@ -23,7 +23,7 @@ fn open_word<S: Source>(source: &S, book: usize) -> u16
 // Asks for every pair once: bit w of word b is set where book b is open at weekend w.
 pub(crate) fn open_words<S: Source>(source: &S) -> [u16; 120]
     ensures bits { (b w : ℕ) → word_at result b w ≡ is_some (S.Source.table source.now b w) }
-    ensures light { (b w : ℕ) → b < S.Source.count source.now → w < S.Source.weeks source.now → IfSome (S.Source.table source.now b w) (λ x. Quote-as-Amount.kind.weight x ≤ 10 ^ 9) }
+    ensures light { (b w : ℕ) → b < S.Source.count source.now → w < S.Source.weeks source.now → IfSome (S.Source.table source.now b w) (λ x. S.Quote.Amount.kind.weight x ≤ 10 ^ 9) }
 {
     let mut words: [u16; 120] = [0; 120];
     for book in 0..source.books() {

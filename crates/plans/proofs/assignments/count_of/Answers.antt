@@ -10,8 +10,8 @@ pub loop-book-init : goal.loop-book-init
 unfolding tally
 loop-book-init c = refl
 
-pub overflow-add-members : goal.overflow-add-members
-overflow-add-members c =
+pub overflow_add-members : goal.overflow_add-members
+overflow_add-members c =
     let t : ℕ → Bool = λ b. eqb (at c.args.assignment.now b) c.args.weekend && is_member c.args.roster.now b c.args.class in
     omega (arith, c.loop-book.invariant, tally_le c.loop-book.book t)
 

@@ -15,5 +15,5 @@ loop-book-preserved g c =
     let table = g.S.Source.table c.args.source.now in
     let b = c.loop-book.book in
     c.sum-sum.ensures
-    ∙ ap₂ k.plus c.loop-book.invariant (c.or-zero.ensures ∙ ap (or_none k) (c.quote.ensures.pinned ∙ ap (table b) c.weekend-of-weekend.ensures))
+    ∙ ap₂ k.plus c.loop-book.invariant (c.or_zero.ensures ∙ ap (or_none k) (c.quote.ensures.pinned ∙ ap (table b) c.weekend_of-weekend.ensures))
     ∙ sum_more k b (λ b. or_none k (table b (at c.args.assignment.now b)))

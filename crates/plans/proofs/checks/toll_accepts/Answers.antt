@@ -12,6 +12,6 @@ returns-then-stranded g c = c.if-stranded.true ∙ sym (or_left _ _ (sym c.if-st
 pub returns-else-stranded : goal.returns-else-stranded
 unfolding accepts floor cheapest toll
 returns-else-stranded g c =
-    c.is-lt.ensures
+    c.is_lt.ensures
     ∙ ap is_lt (c.compare.ensures ∙ ap (g.S.Quote.Amount.kind.cmp c.args.limit) c.floor.ensures)
     ∙ sym (or_passes _ _ (sym c.if-stranded.ensures))

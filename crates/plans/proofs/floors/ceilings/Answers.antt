@@ -12,7 +12,7 @@ pub loop-weekend-preserved : goal.loop-weekend-preserved
 loop-weekend-preserved g c =
     let k = g.X.Amount.kind in
     c.sum-sum.ensures
-    ∙ ap₂ k.plus c.loop-weekend.invariant c.ceilings-of.ensures
+    ∙ ap₂ k.plus c.loop-weekend.invariant c.ceilings_of.ensures
     ∙ sum_more k c.loop-weekend.weekend (λ w. sum_below k c.args.classes (bounds_ceiling k c.args.classes c.args.bounds.now c.args.sheet.now w))
 
 pub returns : goal.returns

@@ -3,7 +3,7 @@ use Rattle.amounts.specs.Least.{least_of, better}
 use Rattle.plans.specs.Posed.{roster_toll}
 use Rattle.plans.proofs.Below.{smallest_open, smallest_shut}
 use Rattle.plans.proofs.floors.cheapest.Goals as goal
-use Rattle.plans.proofs.floors.cheapest.Goals.{in-Some, in-default}
+use Rattle.plans.proofs.floors.cheapest.Goals.{in-Some, in_default}
 
 pub loop-weekend-init : goal.loop-weekend-init
 unfolding least_of
@@ -22,5 +22,5 @@ loop-weekend-preserved g c =
       | in-Some w ↦ w.least-is
           ∙ ap Some (w.better.ensures ∙ ap (better k c.loop-weekend.least) (w.sum-cost.ensures ∙ ap (k.plus w.in-Some.quote) w.toll.ensures))
           ∙ smallest_open k quotes tolls n c.loop-weekend.least c.loop-weekend.invariant w.in-Some.quote w.in-Some.ensures.pinned
-      | in-default w ↦ w.least-is ∙ smallest_shut k quotes tolls n c.loop-weekend.least c.loop-weekend.invariant (sym w.in-default.is ∙ c.quote.ensures.pinned)
+      | in_default w ↦ w.least-is ∙ smallest_shut k quotes tolls n c.loop-weekend.least c.loop-weekend.invariant (sym w.in_default.is ∙ c.quote.ensures.pinned)
     ]

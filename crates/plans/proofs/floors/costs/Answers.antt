@@ -15,5 +15,5 @@ loop-book-preserved g c =
     let k = g.S.Quote.Amount.kind in
     let s = c.args.source.now in
     c.sum-sum.ensures
-    ∙ ap₂ k.plus c.loop-book.invariant (c.or-zero.ensures ∙ ap (or_none k) c.cheapest.ensures)
+    ∙ ap₂ k.plus c.loop-book.invariant (c.or_zero.ensures ∙ ap (or_none k) c.cheapest.ensures)
     ∙ sum_more k c.loop-book.book (λ b. or_none k (smallest k (g.S.Source.weeks s) (g.S.Source.table s b) (roster_toll k c.args.roster.now c.args.sheet.now b)))

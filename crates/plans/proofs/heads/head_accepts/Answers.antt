@@ -7,11 +7,11 @@ use Rattle.plans.proofs.heads.head_accepts.Goals as goal
 
 pub returns : goal.returns
 returns g c =
-    let none = g.Quote.Amount.kind.none in
+    let none = g.S.Quote.Amount.kind.none in
     let s = c.args.source.now in
     let r = c.args.roster.now in
     let b = c.args.bounds.now in
     let coins = c.coins-entries.result in
-    c.toll-accepts.ensures
+    c.toll_accepts.ensures
     ∙ ap (λ s. toll_accepts money_kind (recounted (problem (meaning g.S.Source s) r b none) (money (pos 0))) coins) c.over-free.ensures
     ∙ heads_agree (meaning g.S.Source s) r b none coins c.args.sheet.now (g.S.Source.ranges.few_books s) (g.S.Source.ranges.few_weeks s) c.coins-entries.ensures.value c.coins-entries.ensures.light
