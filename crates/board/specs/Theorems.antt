@@ -1,5 +1,5 @@
 -- What is shown of every run of calls, over one kind of amounts. Assumes nothing.
-use Rattle.std.specs.Prelude.{◌≡◌, ℕ, ◌^◌, ◌<◌, ◌≤◌, true, List, ℤ, IfSome, Ok, ◌≢◌}
+use Rattle.std.specs.Prelude.{ℕ, ◌^◌, ◌<◌, ◌≤◌, true, List, ℤ, IfSome, Ok, ◌≢◌}
 use Rattle.amounts.specs.Kind.{Kind}
 use Rattle.plans.specs.Posed.{Meaning}
 use Rattle.plans.specs.Problem.{Problem, Plan, Possible}

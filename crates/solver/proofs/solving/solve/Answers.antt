@@ -6,11 +6,11 @@ use Rattle.solver.proofs.solving.solve.Goals as goal
 
 pub returns-in-Some : goal.returns-in-Some
 returns-in-Some g c =
-    let K = g.Quote.Amount.kind in
+    let K = g.S.Quote.Amount.kind in
     let B = problem (meaning g.S.Source c.args.source.now) c.args.roster.now c.args.bounds.now K.none in
     let e = c.in-Some.ensures in
     record {
-      right = (c.if-work-lt-PLACES.false, least_of_lem g.met.Quote.Amount.lawful B e.sound (λ w k _ _. bounds_straight c.args.bounds.now w k) c.in-Some.state _ e.found);
+      right = (c.if-work-lt-PLACES.false, least_of_lem g.met.S.Quote.Amount.lawful B e.sound (λ w k _ _. bounds_straight c.args.bounds.now w k) c.in-Some.state _ e.found);
       unchanged = λ h. absurd (omega (arith, c.if-work-lt-PLACES.false));
       clean = search rules;
       long = search rules;

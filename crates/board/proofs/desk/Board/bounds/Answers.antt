@@ -6,11 +6,11 @@ use Rattle.board.proofs.desk.Board.bounds.Goals as goal
 
 pub returns-in-Some : goal.returns-in-Some
 returns-in-Some g c =
-    let M = under g.S.Source c.args.self.now in let K = g.Quote.Amount.kind in let st = standing c.args.self.now in
+    let M = under g.S.Source c.args.self.now in let K = g.S.Quote.Amount.kind in let st = standing c.args.self.now in
     record { answer = refused_answer M K st (bounds c.args.weekend c.args.class c.args.lower c.args.upper) c.in-Some.refusal c.in-Some.ensures; after = refused_keeps M K st (bounds c.args.weekend c.args.class c.args.lower c.args.upper) c.in-Some.refusal c.in-Some.ensures; same = refl }
 
 pub returns : goal.returns
 unfolding changed
 returns g c =
-    let M = under g.S.Source c.args.self.now in let K = g.Quote.Amount.kind in let st = standing c.args.self.now in
-    record { answer = taken_answer M K st (bounds c.args.weekend c.args.class c.args.lower c.args.upper) c.in-default.ensures; after = (ap (λ x. with_bounds st x c.set.new.self.upper) c.set.ensures.lower ∙ ap (with_bounds st _) c.set.ensures.upper) ∙ taken_changes M K st (bounds c.args.weekend c.args.class c.args.lower c.args.upper) c.in-default.ensures; same = refl }
+    let M = under g.S.Source c.args.self.now in let K = g.S.Quote.Amount.kind in let st = standing c.args.self.now in
+    record { answer = taken_answer M K st (bounds c.args.weekend c.args.class c.args.lower c.args.upper) c.in_default.ensures; after = (ap (λ x. with_bounds st x c.set.new.self.upper) c.set.ensures.lower ∙ ap (with_bounds st _) c.set.ensures.upper) ∙ taken_changes M K st (bounds c.args.weekend c.args.class c.args.lower c.args.upper) c.in_default.ensures; same = refl }

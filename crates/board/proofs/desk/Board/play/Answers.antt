@@ -9,7 +9,7 @@ use Rattle.board.proofs.desk.Board.play.Goals.{in-Strike, in-Reopen, in-Pin, in-
 
 pub loop-call-preserved : goal.loop-call-preserved
 loop-call-preserved g c =
-    let K = g.Quote.Amount.kind in
+    let K = g.S.Quote.Amount.kind in
     let M = under g.S.Source c.args.self.now in
     let st = standing c.loop-call.self in
     let moved = λ (s : Step g.row.S-Quote.Denot). ap (λ b. stepped (meaning g.S.Source b) K st s) c.loop-call.invariant.1 in
@@ -41,7 +41,7 @@ loop-call-preserved g c =
 
 pub returns : goal.returns
 returns g c =
-    let K = g.Quote.Amount.kind in
+    let K = g.S.Quote.Amount.kind in
     let M = under g.S.Source c.args.self.now in
     record {
       after = sym (play_end M K c.args.calls.now c.loop-call.call-index (standing c.loop-call.self) c.loop-call-test.false) ∙ c.loop-call.invariant.0;

@@ -8,7 +8,7 @@ use Rattle.board.proofs.desk.Board.roster.Goals as goal
 
 pub returns-in-Ok : goal.returns-in-Ok
 returns-in-Ok g c =
-    let M = under g.S.Source c.args.self.now in let K = g.Quote.Amount.kind in let st = standing c.args.self.now in
+    let M = under g.S.Source c.args.self.now in let K = g.S.Quote.Amount.kind in let st = standing c.args.self.now in
     let ps = c.args.parents.now in let cs = c.args.classes.now in
     let s = shape c.in-Ok.roster in
     let e = roster_goes M K st c.books-books.result ps cs c.books-books.ensures s c.in-Ok.ensures in
@@ -21,7 +21,7 @@ returns-in-Ok g c =
 
 pub returns-in-Err : goal.returns-in-Err
 returns-in-Err g c =
-    let M = under g.S.Source c.args.self.now in let K = g.Quote.Amount.kind in let st = standing c.args.self.now in
+    let M = under g.S.Source c.args.self.now in let K = g.S.Quote.Amount.kind in let st = standing c.args.self.now in
     let ps = c.args.parents.now in let cs = c.args.classes.now in
-    let e = ap Some c.roster-refusal.ensures ∙ roster_stops M K st c.books-books.result ps cs c.books-books.ensures c.in-Err.fault c.in-Err.ensures in
-    record { answer = refused_answer M K st (roster ps cs) c.roster-refusal.result e; after = refused_keeps M K st (roster ps cs) c.roster-refusal.result e; same = refl }
+    let e = ap Some c.roster_refusal.ensures ∙ roster_stops M K st c.books-books.result ps cs c.books-books.ensures c.in-Err.fault c.in-Err.ensures in
+    record { answer = refused_answer M K st (roster ps cs) c.roster_refusal.result e; after = refused_keeps M K st (roster ps cs) c.roster_refusal.result e; same = refl }

@@ -7,9 +7,9 @@ pub returns-then-book-books : goal.returns-then-book-books
 unfolding fault
 returns-then-book-books g c = grind (arith, nat_tests)
 
-pub returns-then-is-none : goal.returns-then-is-none
+pub returns-then-is_none : goal.returns-then-is_none
 unfolding fault
-returns-then-is-none g c = grind (arith, nat_tests)
+returns-then-is_none g c = grind (arith, nat_tests)
 
 pub returns : goal.returns
 unfolding fault

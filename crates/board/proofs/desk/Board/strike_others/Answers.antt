@@ -10,9 +10,9 @@ loop-other-init g c = (refl, refl)
 
 pub loop-other-preserved : goal.loop-other-preserved
 loop-other-preserved g c = (
-  pin_turn g.S.Source c.args.self.now.layer.below c.loop-other.self.layer.below (standing c.args.self.now) (standing c.loop-other.self) (standing c.strike-other.new.self)
-      c.args.book c.args.weekend c.loop-other.other c.loop-other.invariant.1 c.loop-other.invariant.0 c.strike-other.ensures.after,
-  c.strike-other.ensures.same ∙ c.loop-other.invariant.1,
+  pin_turn g.S.Source c.args.self.now.layer.below c.loop-other.self.layer.below (standing c.args.self.now) (standing c.loop-other.self) (standing c.strike_other.new.self)
+      c.args.book c.args.weekend c.loop-other.other c.loop-other.invariant.1 c.loop-other.invariant.0 c.strike_other.ensures.after,
+  c.strike_other.ensures.same ∙ c.loop-other.invariant.1,
 )
 
 pub returns : goal.returns

@@ -7,26 +7,26 @@ use Rattle.board.proofs.desk.Board.toll_check.Goals as goal
 
 pub returns-then-sheet-places : goal.returns-then-sheet-places
 returns-then-sheet-places g c =
-    let K = g.Quote.Amount.kind in let B = posed g.S.Source c.args.self.now in let sheet = c.args.sheet.now in
+    let K = g.S.Quote.Amount.kind in let B = posed g.S.Source c.args.self.now in let sheet = c.args.sheet.now in
     record { answer = toll_short K B sheet c.places-places.result c.places-places.ensures c.if-sheet-places.true; sound = λ e. no_yes Short e }
 
 pub returns-then-weight-gt-HEAVIEST : goal.returns-then-weight-gt-HEAVIEST
 returns-then-weight-gt-HEAVIEST g c =
-    let K = g.Quote.Amount.kind in let B = posed g.S.Source c.args.self.now in let sheet = c.args.sheet.now in
+    let K = g.S.Quote.Amount.kind in let B = posed g.S.Source c.args.self.now in let sheet = c.args.sheet.now in
     record { answer = toll_heavy_limit K B sheet c.places-places.result c.places-places.ensures c.weight.result c.if-sheet-places.false c.weight.ensures c.if-weight-gt-HEAVIEST.true; sound = λ e. no_yes Heavy e }
 
-pub returns-then-not-are-light : goal.returns-then-not-are-light
-returns-then-not-are-light g c =
-    let K = g.Quote.Amount.kind in let B = posed g.S.Source c.args.self.now in let sheet = c.args.sheet.now in
-    record { answer = toll_heavy_entry K B sheet c.places-places.result c.places-places.ensures c.if-sheet-places.false c.if-not-are-light.ensures; sound = λ e. no_yes Heavy e }
+pub returns-then-not-are_light : goal.returns-then-not-are_light
+returns-then-not-are_light g c =
+    let K = g.S.Quote.Amount.kind in let B = posed g.S.Source c.args.self.now in let sheet = c.args.sheet.now in
+    record { answer = toll_heavy_entry K B sheet c.places-places.result c.places-places.ensures c.if-sheet-places.false c.if-not-are_light.ensures; sound = λ e. no_yes Heavy e }
 
 pub returns : goal.returns
 returns g c =
-    let K = g.Quote.Amount.kind in let B = posed g.S.Source c.args.self.now in let sheet = c.args.sheet.now in
+    let K = g.S.Quote.Amount.kind in let B = posed g.S.Source c.args.self.now in let sheet = c.args.sheet.now in
     record {
-      answer = toll_told K B sheet c.places-places.result c.places-places.ensures c.weight.result c.toll-accepts.result c.if-sheet-places.false c.weight.ensures c.if-weight-gt-HEAVIEST.false c.if-not-are-light.ensures c.toll-accepts.ensures;
-      sound = toll_never K B sheet c.places-places.result c.places-places.ensures g.met.Quote.Amount.lawful c.toll-accepts.result
+      answer = toll_told K B sheet c.places-places.result c.places-places.ensures c.weight.result c.toll_accepts.result c.if-sheet-places.false c.weight.ensures c.if-weight-gt-HEAVIEST.false c.if-not-are_light.ensures c.toll_accepts.ensures;
+      sound = toll_never K B sheet c.places-places.result c.places-places.ensures g.met.S.Quote.Amount.lawful c.toll_accepts.result
           (posed_sound K (under_strikes g.S.Source c.args.self.now) c.args.self.now.roster c.args.self.now.bounds c.args.self.now.limit
-          (g.S.Source.ranges.few_books c.args.self.now.layer.below) (g.S.Source.ranges.few_weeks c.args.self.now.layer.below) c.look-at-quotes.ensures (omega (arith, c.weight.ensures)))
-          c.if-not-are-light.ensures c.toll-accepts.ensures;
+          (g.S.Source.ranges.few_books c.args.self.now.layer.below) (g.S.Source.ranges.few_weeks c.args.self.now.layer.below) c.look_at_quotes.ensures (omega (arith, c.weight.ensures)))
+          c.if-not-are_light.ensures c.toll_accepts.ensures;
     }

@@ -7,9 +7,9 @@ pub returns-then-book-books : goal.returns-then-book-books
 unfolding fault
 returns-then-book-books g c = grind (arith, nat_tests)
 
-pub returns-then-not-is-struck : goal.returns-then-not-is-struck
+pub returns-then-not-is_struck : goal.returns-then-not-is_struck
 unfolding fault
-returns-then-not-is-struck g c = grind (arith, nat_tests)
+returns-then-not-is_struck g c = grind (arith, nat_tests)
 
 pub returns : goal.returns
 unfolding fault

@@ -5,7 +5,7 @@ use Rattle.solver.proofs.graph.Graph.augment.Given as goal
 
 abbrev pub invariant-loop-arc : goal.invariant-loop-arc
 invariant-loop-arc g l =
-    let K = g.Quote.Amount.kind in
+    let K = g.S.Quote.Amount.kind in
     WalksIn K (posed_by g.S.Source K l.self) (memory l.labels.heads l.labels.sheet.now l.trail) l.book l.into l.state l.hole
     × (l.state.words ≡ l.initial.state.words)
     × (l.hole < 129)

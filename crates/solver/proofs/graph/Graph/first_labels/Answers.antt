@@ -8,7 +8,7 @@ returns g c =
     let graph = c.args.self.now in
     let i = c.loop-weekend.invariant in
     record {
-      shown = flat_shown g.met.Quote.Amount.lawful (meaning g.S.Source graph.source.now) graph.roster.now graph.bounds.now g.Quote.Amount.kind.none c.args.state.now _ _ c.requires.sound c.requires.begun (omega (arith, c.weekends-weekend-end.ensures, c.loop-weekend-test.false)) i.0;
+      shown = flat_shown g.met.S.Quote.Amount.lawful (meaning g.S.Source graph.source.now) graph.roster.now graph.bounds.now g.S.Quote.Amount.kind.none c.args.state.now _ _ c.requires.sound c.requires.begun (omega (arith, c.weekends-weekend-end.ensures, c.loop-weekend-test.false)) i.0;
       long = i.1;
       same = i.2;
     }

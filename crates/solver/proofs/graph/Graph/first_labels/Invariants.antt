@@ -7,6 +7,6 @@ use Rattle.solver.proofs.graph.Graph.first_labels.Given as goal
 
 abbrev pub invariant-loop-weekend : goal.invariant-loop-weekend
 invariant-loop-weekend g l =
-    Flat g.Quote.Amount.kind (posed_by g.S.Source g.Quote.Amount.kind l.self) (at l.state.counts) (bank g.Quote.Amount.kind 0 l.labels.heads l.labels.sheet.now) (node l.weekend 0)
+    Flat g.S.Quote.Amount.kind (posed_by g.S.Source g.S.Quote.Amount.kind l.self) (at l.state.counts) (bank g.S.Quote.Amount.kind 0 l.labels.heads l.labels.sheet.now) (node l.weekend 0)
     × (length l.labels.sheet.now ≡ length l.initial.labels.sheet.now)
     × (l.labels.sheet.ghost_name ≡ l.initial.labels.sheet.ghost_name)

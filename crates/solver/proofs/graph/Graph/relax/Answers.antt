@@ -8,20 +8,20 @@ use Rattle.solver.proofs.graph.Graph.relax.Goals.{else-weekend-weekends-via-then
 
 pub returns-then-class-classes : goal.returns-then-class-classes
 returns-then-class-classes g c =
-    let K = g.Quote.Amount.kind in
+    let K = g.S.Quote.Amount.kind in
     let B = posed_by g.S.Source K c.args.self.now in
     let v = c.args.node in
     let whole : node (v / 8) (v % 8) ≡ v = omega arith in
     record {
       relaxed = subst (λ u. Relaxes K B c.args.state.now (memory_of c.args.labels.now c.args.trail.now) (memory_of c.take-moves.new.labels c.take-moves.new.trail) u 0 stages) whole
-          (relaxes_all g.met.Quote.Amount.lawful B c.args.state.now (v / 8) (v % 8) (omega (arith, c.weekends.ensures)) (omega (arith, c.classes.ensures)) _ (memory_of c.take-rise.new.labels c.take-rise.new.trail) (memory_of c.take-falls.new.labels c.take-falls.new.trail) _
+          (relaxes_all g.met.S.Quote.Amount.lawful B c.args.state.now (v / 8) (v % 8) (omega (arith, c.weekends.ensures)) (omega (arith, c.classes.ensures)) _ (memory_of c.take-rise.new.labels c.take-rise.new.trail) (memory_of c.take-falls.new.labels c.take-falls.new.trail) _
           c.take-rise.ensures.relaxed c.take-falls.ensures.relaxed c.take-moves.ensures.relaxed);
       same = c.take-moves.ensures.same ∙ c.take-falls.ensures.same ∙ c.take-rise.ensures.same;
     }
 
 pub returns-else-weekend-weekends : goal.returns-else-weekend-weekends
 returns-else-weekend-weekends g c =
-    let B = posed_by g.S.Source g.Quote.Amount.kind c.args.self.now in
+    let B = posed_by g.S.Source g.S.Quote.Amount.kind c.args.self.now in
     let v = c.args.node in
     let few = c.args.self.now.roster.now.sound.1 in
     let apart : (w k : ℕ) → w < B.weekends → k < B.classes → v ≡ node w k → ⊥ = λ w k lw lk e.
@@ -29,4 +29,4 @@ returns-else-weekend-weekends g c =
       | else-weekend-weekends-via-then-weekend-weekends+else-class-classes x ↦ omega (arith, x.if-class-classes.false, x.classes.ensures, few)
       | else-weekend-weekends-via-else-weekend-weekends x ↦ omega (arith, x.if-weekend-weekends.false, c.weekends.ensures, few)
     ] in
-    record { relaxed = none_there g.met.Quote.Amount.lawful B c.args.state.now _ v (omega (arith, c.if-node-eq-SINK.false)) apart; same = refl }
+    record { relaxed = none_there g.met.S.Quote.Amount.lawful B c.args.state.now _ v (omega (arith, c.if-node-eq-SINK.false)) apart; same = refl }

@@ -6,16 +6,16 @@ use Rattle.solver.proofs.graph.Graph.search.Goals as goal
 
 pub loop-turn-init : goal.loop-turn-init
 loop-turn-init g c =
-    let B = posed_by g.S.Source g.Quote.Amount.kind c.args.self.now in
-    (sought_begin g.met.Quote.Amount.lawful B c.args.state.now _ (omega arith), refl, omega arith)
+    let B = posed_by g.S.Source g.S.Quote.Amount.kind c.args.self.now in
+    (sought_begin g.met.S.Quote.Amount.lawful B c.args.state.now _ (omega arith), refl, omega arith)
 
 pub pick-requires : goal.pick-requires
 pick-requires g c = omega (arith, c.requires, c.loop-turn.invariant.0.long)
 
 pub returns-in-default : goal.returns-in-default
 returns-in-default g c =
-    let L = g.met.Quote.Amount.lawful in
-    let B = posed_by g.S.Source g.Quote.Amount.kind c.args.self.now in
+    let L = g.met.S.Quote.Amount.lawful in
+    let B = posed_by g.S.Source g.S.Quote.Amount.kind c.args.self.now in
     let e = c.in-default.ensures in
     let t = c.loop-turn.trail in
     let m₀ = memory_of c.args.labels.now c.args.trail.now in
@@ -30,8 +30,8 @@ relax-requires g c =
 
 pub loop-turn-preserved : goal.loop-turn-preserved
 loop-turn-preserved g c =
-    let K = g.Quote.Amount.kind in
-    let L = g.met.Quote.Amount.lawful in
+    let K = g.S.Quote.Amount.kind in
+    let L = g.met.S.Quote.Amount.lawful in
     let B = posed_by g.S.Source K c.args.self.now in
     let e = c.in-Some.ensures in
     let t = c.loop-turn.trail in
@@ -45,6 +45,6 @@ loop-turn-preserved g c =
 
 pub returns : goal.returns
 returns g c =
-    let B = posed_by g.S.Source g.Quote.Amount.kind c.args.self.now in
+    let B = posed_by g.S.Source g.S.Quote.Amount.kind c.args.self.now in
     let all : c.loop-turn.turn ≡ nodes = omega arith in
-    record { searched = sought_all g.met.Quote.Amount.lawful B c.args.state.now _ _ (rw all at c.loop-turn.invariant.0) c.loop-turn.invariant.2; same = c.loop-turn.invariant.1 }
+    record { searched = sought_all g.met.S.Quote.Amount.lawful B c.args.state.now _ _ (rw all at c.loop-turn.invariant.0) c.loop-turn.invariant.2; same = c.loop-turn.invariant.1 }

@@ -7,13 +7,13 @@ use Rattle.solver.proofs.graph.Graph.start_at.Goals.{then-has, else-has}
 
 pub loop-weekend-init : goal.loop-weekend-init
 loop-weekend-init g c =
-    let K = g.Quote.Amount.kind in
+    let K = g.S.Quote.Amount.kind in
     let f = c.fresh-trail.ensures in
     (starting_none K (posed_by g.S.Source K c.args.self.now) c.args.book c.args.into _ c.reset.ensures.new f.seen f.ranks f.arcs, refl)
 
 pub loop-weekend-preserved : goal.loop-weekend-preserved
 loop-weekend-preserved g c =
-    let K = g.Quote.Amount.kind in
+    let K = g.S.Quote.Amount.kind in
     let B = posed_by g.S.Source K c.args.self.now in
     let b = c.args.book in
     let into = c.args.into in
@@ -37,9 +37,9 @@ loop-weekend-preserved g c =
 
 pub returns : goal.returns
 returns g c =
-    let B = posed_by g.S.Source g.Quote.Amount.kind c.args.self.now in
+    let B = posed_by g.S.Source g.S.Quote.Amount.kind c.args.self.now in
     let i = c.loop-weekend.invariant in
     record {
-      started = started g.met.Quote.Amount.lawful B c.args.book c.args.into _ (memory_of c.reset.new.self c.fresh-trail.result) _ c.loop-weekend.weekend (omega (arith, c.weekends-weekend-end.ensures)) c.reset.ensures.long c.reset.ensures.old i.0;
+      started = started g.met.S.Quote.Amount.lawful B c.args.book c.args.into _ (memory_of c.reset.new.self c.fresh-trail.result) _ c.loop-weekend.weekend (omega (arith, c.weekends-weekend-end.ensures)) c.reset.ensures.long c.reset.ensures.old i.0;
       same = i.1 ∙ c.reset.ensures.same;
     }

@@ -5,5 +5,5 @@ use Rattle.solver.proofs.graph.Graph.start_at.Given as goal
 
 abbrev pub invariant-loop-weekend : goal.invariant-loop-weekend
 invariant-loop-weekend g l =
-    Starting g.Quote.Amount.kind (posed_by g.S.Source g.Quote.Amount.kind l.self) l.book l.into (memory_of l.initial.labels l.initial.trail) (memory_of l.labels l.trail) l.weekend
+    Starting g.S.Quote.Amount.kind (posed_by g.S.Source g.S.Quote.Amount.kind l.self) l.book l.into (memory_of l.initial.labels l.initial.trail) (memory_of l.labels l.trail) l.weekend
     × (l.labels.sheet.ghost_name ≡ l.initial.labels.sheet.ghost_name)

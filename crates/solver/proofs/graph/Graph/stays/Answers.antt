@@ -17,7 +17,7 @@ loop-weekend-init g c = (λ x l e. absurd (not-suc-le-zero l), refl, refl, refl)
 
 pub stays-by-requires : goal.stays-by-requires
 stays-by-requires g c =
-    let K = g.Quote.Amount.kind in
+    let K = g.S.Quote.Amount.kind in
     let table = g.S.Source.table c.args.self.now.source.now in
     record {
       book = c.requires.book;
@@ -35,7 +35,7 @@ returns-then-not-stays-by g c =
 
 pub loop-weekend-preserved : goal.loop-weekend-preserved
 loop-weekend-preserved g c =
-    let K = g.Quote.Amount.kind in
+    let K = g.S.Quote.Amount.kind in
     let B = posed_by g.S.Source K c.args.self.now in
     let state = c.args.state.now in
     let l = c.args.labels.now in
@@ -60,11 +60,11 @@ loop-weekend-preserved g c =
 
 pub returns : goal.returns
 returns g c =
-    let B = posed_by g.S.Source g.Quote.Amount.kind c.args.self.now in
+    let B = posed_by g.S.Source g.S.Quote.Amount.kind c.args.self.now in
     let i = c.loop-weekend.invariant in
     let own = ap (bit_at c.args.into) (sym c.from-from.ensures) ∙ sym c.if-not-has.ensures in
     record {
-      stays = λ _. tried_all g.met.Quote.Amount.lawful B c.args.state.now _ c.args.book c.args.into c.loop-weekend.weekend (omega (arith, c.weekends-weekend-end.ensures, c.loop-weekend-test.false)) c.requires.book c.requires.sent own i.0;
+      stays = λ _. tried_all g.met.S.Quote.Amount.lawful B c.args.state.now _ c.args.book c.args.into c.loop-weekend.weekend (omega (arith, c.weekends-weekend-end.ensures, c.loop-weekend-test.false)) c.requires.book c.requires.sent own i.0;
       heads = i.1;
       sheet = i.2;
       same = i.3;

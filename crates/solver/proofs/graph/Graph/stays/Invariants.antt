@@ -5,7 +5,7 @@ use Rattle.solver.proofs.graph.Graph.stays.Given as goal
 
 abbrev pub invariant-loop-weekend : goal.invariant-loop-weekend
 invariant-loop-weekend g l =
-    let K = g.Quote.Amount.kind in
+    let K = g.S.Quote.Amount.kind in
     Tried K (posed_by g.S.Source K l.self) l.state (bank K 0 l.initial.labels.heads l.initial.labels.sheet.now) l.book l.into l.weekend
     × (l.labels.heads ≡ l.initial.labels.heads)
     × (l.labels.sheet.now ≡ l.initial.labels.sheet.now)

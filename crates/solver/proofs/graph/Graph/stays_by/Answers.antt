@@ -10,7 +10,7 @@ use Rattle.solver.proofs.graph.Graph.stays_by.Goals as goal
 
 pub returns : goal.returns
 returns g c =
-    let K = g.Quote.Amount.kind in
+    let K = g.S.Quote.Amount.kind in
     let B = posed_by g.S.Source K c.args.self.now in
     let b = c.args.book in
     let x = c.args.weekend in

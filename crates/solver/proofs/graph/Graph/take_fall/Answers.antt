@@ -11,7 +11,7 @@ use Rattle.solver.proofs.graph.Graph.take_fall.Goals as goal
 
 pub returns : goal.returns
 returns g c =
-    let K = g.Quote.Amount.kind in
+    let K = g.S.Quote.Amount.kind in
     let B = posed_by g.S.Source K c.args.self.now in
     let w = c.args.weekend in
     let k = c.args.class in
@@ -26,7 +26,7 @@ returns g c =
     c.fall-cost.ensures ∙ ap₂ (λ a b. fall (soft_kind K) (violation K) a b (at counts c.node-of-node.result)) c.lower-lower.ensures c.upper-upper.ensures ∙ ap (λ n. fall (soft_kind K) (violation K) (B.lower w k) (B.upper w k) (at counts n)) u in
     let stage : 2 + node w k ≡ suc (1 + node w k) = omega arith in
     record {
-      relaxed = rw stage (relaxes_arc g.met.Quote.Amount.lawful B c.args.state.now l.heads c.read.new.self.heads l.sheet.now c.read.new.self.sheet.now t (memory_of c.offer.new.labels c.offer.new.trail) (Fall w k) c.node-of-node.result (above B.parent w k) (1 + node w k) c.sum-label.result
+      relaxed = rw stage (relaxes_arc g.met.S.Quote.Amount.lawful B c.args.state.now l.heads c.read.new.self.heads l.sheet.now c.read.new.self.sheet.now t (memory_of c.offer.new.labels c.offer.new.trail) (Fall w k) c.node-of-node.result (above B.parent w k) (1 + node w k) c.sum-label.result
           r.heads r.sheet u (c.sum-label.ensures ∙ ap₂ (soft_kind K).plus (read_new K l.heads l.sheet.now t c.above-tail.result (above B.parent w k) c.read.result small tail r.read) cost)
           c.offer.ensures.offered (c.requires.weekend, c.requires.class) refl refl);
       same = c.offer.ensures.same ∙ r.same;

@@ -7,16 +7,16 @@ use Rattle.solver.proofs.graph.Graph.take_falls.Goals.{then-parent-class, else-p
 
 pub loop-below-init : goal.loop-below-init
 loop-below-init g c =
-    let B = posed_by g.S.Source g.Quote.Amount.kind c.args.self.now in
-    (falls_begin g.met.Quote.Amount.lawful B c.args.state.now c.args.weekend c.args.class c.requires.weekend c.requires.class _, refl)
+    let B = posed_by g.S.Source g.S.Quote.Amount.kind c.args.self.now in
+    (falls_begin g.met.S.Quote.Amount.lawful B c.args.state.now c.args.weekend c.args.class c.requires.weekend c.requires.class _, refl)
 
 pub take-fall-requires : goal.take-fall-requires
 take-fall-requires g c = record { weekend = c.requires.weekend; class = omega (arith, c.classes-below-end.ensures); room = omega (arith, c.requires.room, c.loop-below.invariant.0.kept.long) }
 
 pub loop-below-preserved : goal.loop-below-preserved
 loop-below-preserved g c =
-    let L = g.met.Quote.Amount.lawful in
-    let K = g.Quote.Amount.kind in
+    let L = g.met.S.Quote.Amount.lawful in
+    let K = g.S.Quote.Amount.kind in
     let B = posed_by g.S.Source K c.args.self.now in
     let state = c.args.state.now in
     let w = c.args.weekend in
@@ -39,8 +39,8 @@ loop-below-preserved g c =
 
 pub returns : goal.returns
 returns g c =
-    let B = posed_by g.S.Source g.Quote.Amount.kind c.args.self.now in
+    let B = posed_by g.S.Source g.S.Quote.Amount.kind c.args.self.now in
     record {
-      relaxed = falls_end g.met.Quote.Amount.lawful B c.args.state.now c.args.weekend c.args.class c.requires.weekend c.requires.class _ _ c.loop-below.below c.loop-below.invariant.0 (omega (arith, c.classes-below-end.ensures, c.loop-below-test.false));
+      relaxed = falls_end g.met.S.Quote.Amount.lawful B c.args.state.now c.args.weekend c.args.class c.requires.weekend c.requires.class _ _ c.loop-below.below c.loop-below.invariant.0 (omega (arith, c.classes-below-end.ensures, c.loop-below-test.false));
       same = c.loop-below.invariant.1;
     }

@@ -5,5 +5,5 @@ use Rattle.solver.proofs.graph.Graph.take_falls.Given as goal
 
 abbrev pub invariant-loop-below : goal.invariant-loop-below
 invariant-loop-below g l =
-    Relaxes g.Quote.Amount.kind (posed_by g.S.Source g.Quote.Amount.kind l.self) l.state (memory_of l.initial.labels l.initial.trail) (memory_of l.labels l.trail) (node l.weekend l.class) 1 (1 + node l.weekend l.below)
+    Relaxes g.S.Quote.Amount.kind (posed_by g.S.Source g.S.Quote.Amount.kind l.self) l.state (memory_of l.initial.labels l.initial.trail) (memory_of l.labels l.trail) (node l.weekend l.class) 1 (1 + node l.weekend l.below)
     × (l.labels.sheet.ghost_name ≡ l.initial.labels.sheet.ghost_name)

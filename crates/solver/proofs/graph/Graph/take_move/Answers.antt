@@ -10,7 +10,7 @@ use Rattle.solver.proofs.graph.Graph.take_move.Goals as goal
 
 pub returns : goal.returns
 returns g c =
-    let K = g.Quote.Amount.kind in
+    let K = g.S.Quote.Amount.kind in
     let B = posed_by g.S.Source K c.args.self.now in
     let b = c.args.book in
     let x = c.args.weekend in
@@ -25,7 +25,7 @@ returns g c =
     let cost : c.sum-cost.result ≡ moving (soft_kind K) (softened B) b y x = c.sum-cost.ensures ∙ ap₂ (soft_kind K).plus c.soft-quote.ensures c.requires.leaving in
     let next : 130 + (b * 16 + x) ≡ suc (129 + (b * 16 + x)) = omega arith in
     record {
-      relaxed = rw next (relaxes_arc g.met.Quote.Amount.lawful B c.args.state.now l.heads c.read.new.self.heads l.sheet.now c.read.new.self.sheet.now t (memory_of c.offer.new.labels c.offer.new.trail) (Move b x) c.node-of-head.result (node y (B.class b)) (129 + (b * 16 + x)) c.sum-label.result
+      relaxed = rw next (relaxes_arc g.met.S.Quote.Amount.lawful B c.args.state.now l.heads c.read.new.self.heads l.sheet.now c.read.new.self.sheet.now t (memory_of c.offer.new.labels c.offer.new.trail) (Move b x) c.node-of-head.result (node y (B.class b)) (129 + (b * 16 + x)) c.sum-label.result
           r.heads r.sheet head (c.sum-label.ensures ∙ ap₂ (soft_kind K).plus (read_new K l.heads l.sheet.now t c.node-of-tail.result (node y (B.class b)) c.read.result small tail r.read) cost)
           c.offer.ensures.offered (c.requires.book, c.requires.weekend, c.requires.allowed) refl refl);
       same = c.offer.ensures.same ∙ r.same;

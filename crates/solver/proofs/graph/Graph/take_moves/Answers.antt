@@ -9,8 +9,8 @@ use Rattle.solver.proofs.graph.Graph.take_moves.Goals.{then-stands-at, else-stan
 
 pub loop-book-init : goal.loop-book-init
 loop-book-init g c =
-    let B = posed_by g.S.Source g.Quote.Amount.kind c.args.self.now in
-    (moves_begin g.met.Quote.Amount.lawful B c.args.state.now c.args.weekend c.args.class c.requires.weekend c.requires.class _, refl)
+    let B = posed_by g.S.Source g.S.Quote.Amount.kind c.args.self.now in
+    (moves_begin g.met.S.Quote.Amount.lawful B c.args.state.now c.args.weekend c.args.class c.requires.weekend c.requires.class _, refl)
 
 pub take-moves-of-requires : goal.take-moves-of-requires
 take-moves-of-requires g c =
@@ -23,8 +23,8 @@ take-moves-of-requires g c =
 
 pub loop-book-preserved : goal.loop-book-preserved
 loop-book-preserved g c =
-    let L = g.met.Quote.Amount.lawful in
-    let K = g.Quote.Amount.kind in
+    let L = g.met.S.Quote.Amount.lawful in
+    let K = g.S.Quote.Amount.kind in
     let B = posed_by g.S.Source K c.args.self.now in
     let state = c.args.state.now in
     let w = c.args.weekend in
@@ -47,8 +47,8 @@ loop-book-preserved g c =
 
 pub returns : goal.returns
 returns g c =
-    let B = posed_by g.S.Source g.Quote.Amount.kind c.args.self.now in
+    let B = posed_by g.S.Source g.S.Quote.Amount.kind c.args.self.now in
     record {
-      relaxed = moves_end g.met.Quote.Amount.lawful B c.args.state.now c.args.weekend c.args.class c.requires.weekend c.requires.class _ _ c.loop-book.book c.loop-book.invariant.0 (omega (arith, c.books-book-end.ensures, c.loop-book-test.false));
+      relaxed = moves_end g.met.S.Quote.Amount.lawful B c.args.state.now c.args.weekend c.args.class c.requires.weekend c.requires.class _ _ c.loop-book.book c.loop-book.invariant.0 (omega (arith, c.books-book-end.ensures, c.loop-book-test.false));
       same = c.loop-book.invariant.1;
     }

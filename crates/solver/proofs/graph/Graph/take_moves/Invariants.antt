@@ -5,5 +5,5 @@ use Rattle.solver.proofs.graph.Graph.take_moves.Given as goal
 
 abbrev pub invariant-loop-book : goal.invariant-loop-book
 invariant-loop-book g l =
-    Relaxes g.Quote.Amount.kind (posed_by g.S.Source g.Quote.Amount.kind l.self) l.state (memory_of l.initial.labels l.initial.trail) (memory_of l.labels l.trail) (node l.weekend l.class) 129 (129 + l.book * 16)
+    Relaxes g.S.Quote.Amount.kind (posed_by g.S.Source g.S.Quote.Amount.kind l.self) l.state (memory_of l.initial.labels l.initial.trail) (memory_of l.labels l.trail) (node l.weekend l.class) 129 (129 + l.book * 16)
     × (l.labels.sheet.ghost_name ≡ l.initial.labels.sheet.ghost_name)

@@ -10,12 +10,12 @@ use Rattle.solver.proofs.graph.Graph.take_moves_of.Goals.{then-has, else-has}
 
 pub loop-weekend-init : goal.loop-weekend-init
 loop-weekend-init g c =
-    let B = posed_by g.S.Source g.Quote.Amount.kind c.args.self.now in
-    (of_begin g.met.Quote.Amount.lawful B c.args.state.now c.args.book c.requires.book c.requires.sent _, refl)
+    let B = posed_by g.S.Source g.S.Quote.Amount.kind c.args.self.now in
+    (of_begin g.met.S.Quote.Amount.lawful B c.args.state.now c.args.book c.requires.book c.requires.sent _, refl)
 
 pub take-move-requires : goal.take-move-requires
 take-move-requires g c =
-    let K = g.Quote.Amount.kind in
+    let K = g.S.Quote.Amount.kind in
     let table = g.S.Source.table c.args.self.now.source.now in
     record {
       book = c.requires.book;
@@ -28,8 +28,8 @@ take-move-requires g c =
 
 pub loop-weekend-preserved : goal.loop-weekend-preserved
 loop-weekend-preserved g c =
-    let L = g.met.Quote.Amount.lawful in
-    let K = g.Quote.Amount.kind in
+    let L = g.met.S.Quote.Amount.lawful in
+    let K = g.S.Quote.Amount.kind in
     let B = posed_by g.S.Source K c.args.self.now in
     let state = c.args.state.now in
     let b = c.args.book in
@@ -51,8 +51,8 @@ loop-weekend-preserved g c =
 
 pub returns : goal.returns
 returns g c =
-    let B = posed_by g.S.Source g.Quote.Amount.kind c.args.self.now in
+    let B = posed_by g.S.Source g.S.Quote.Amount.kind c.args.self.now in
     record {
-      relaxed = of_end g.met.Quote.Amount.lawful B c.args.state.now c.args.book c.requires.book c.requires.sent _ _ c.loop-weekend.weekend c.loop-weekend.invariant.0 (omega (arith, c.weekends-weekend-end.ensures, c.loop-weekend-test.false));
+      relaxed = of_end g.met.S.Quote.Amount.lawful B c.args.state.now c.args.book c.requires.book c.requires.sent _ _ c.loop-weekend.weekend c.loop-weekend.invariant.0 (omega (arith, c.weekends-weekend-end.ensures, c.loop-weekend-test.false));
       same = c.loop-weekend.invariant.1;
     }

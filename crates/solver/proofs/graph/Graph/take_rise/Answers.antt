@@ -11,7 +11,7 @@ use Rattle.solver.proofs.graph.Graph.take_rise.Goals as goal
 
 pub returns : goal.returns
 returns g c =
-    let K = g.Quote.Amount.kind in
+    let K = g.S.Quote.Amount.kind in
     let B = posed_by g.S.Source K c.args.self.now in
     let w = c.args.weekend in
     let k = c.args.class in
@@ -24,7 +24,7 @@ returns g c =
     let cost : c.rise-cost.result ≡ rise (soft_kind K) (violation K) (B.lower w k) (B.upper w k) (at counts (node w k)) =
     c.rise-cost.ensures ∙ ap₂ (λ a b. rise (soft_kind K) (violation K) a b (at counts c.node-of-node.result)) c.lower-lower.ensures c.upper-upper.ensures ∙ ap (λ n. rise (soft_kind K) (violation K) (B.lower w k) (B.upper w k) (at counts n)) u in
     record {
-      relaxed = relaxes_arc g.met.Quote.Amount.lawful B c.args.state.now l.heads c.read.new.self.heads l.sheet.now c.read.new.self.sheet.now t (memory_of c.offer.new.labels c.offer.new.trail) (Rise w k) c.above-head.result (node w k) 0 c.sum-label.result
+      relaxed = relaxes_arc g.met.S.Quote.Amount.lawful B c.args.state.now l.heads c.read.new.self.heads l.sheet.now c.read.new.self.sheet.now t (memory_of c.offer.new.labels c.offer.new.trail) (Rise w k) c.above-head.result (node w k) 0 c.sum-label.result
           r.heads r.sheet c.above-head.ensures.is (c.sum-label.ensures ∙ ap₂ (soft_kind K).plus (read_new K l.heads l.sheet.now t c.node-of-node.result (node w k) c.read.result small u r.read) cost)
           c.offer.ensures.offered (c.requires.weekend, c.requires.class) refl refl;
       same = c.offer.ensures.same ∙ r.same;

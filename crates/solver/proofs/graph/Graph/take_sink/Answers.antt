@@ -5,8 +5,8 @@ use Rattle.solver.proofs.graph.Graph.take_sink.Goals as goal
 
 pub loop-weekend-init : goal.loop-weekend-init
 loop-weekend-init g c =
-    let B = posed_by g.S.Source g.Quote.Amount.kind c.args.self.now in
-    (sink_begin g.met.Quote.Amount.lawful B c.args.state.now _, refl)
+    let B = posed_by g.S.Source g.S.Quote.Amount.kind c.args.self.now in
+    (sink_begin g.met.S.Quote.Amount.lawful B c.args.state.now _, refl)
 
 pub take-fall-requires : goal.take-fall-requires
 take-fall-requires g c = record {
@@ -17,15 +17,15 @@ take-fall-requires g c = record {
 
 pub loop-weekend-preserved : goal.loop-weekend-preserved
 loop-weekend-preserved g c =
-    let B = posed_by g.S.Source g.Quote.Amount.kind c.args.self.now in (
-      sink_take g.met.Quote.Amount.lawful B c.args.state.now _ _ (memory_of c.take-fall.new.labels c.take-fall.new.trail) c.loop-weekend.weekend c.loop-weekend.invariant.0 c.take-fall.ensures.relaxed,
+    let B = posed_by g.S.Source g.S.Quote.Amount.kind c.args.self.now in (
+      sink_take g.met.S.Quote.Amount.lawful B c.args.state.now _ _ (memory_of c.take-fall.new.labels c.take-fall.new.trail) c.loop-weekend.weekend c.loop-weekend.invariant.0 c.take-fall.ensures.relaxed,
       c.take-fall.ensures.same ∙ c.loop-weekend.invariant.1,
     )
 
 pub returns : goal.returns
 returns g c =
-    let B = posed_by g.S.Source g.Quote.Amount.kind c.args.self.now in
+    let B = posed_by g.S.Source g.S.Quote.Amount.kind c.args.self.now in
     record {
-      relaxed = sink_end g.met.Quote.Amount.lawful B c.args.state.now _ _ c.loop-weekend.weekend c.loop-weekend.invariant.0 (omega (arith, c.weekends-weekend-end.ensures, c.loop-weekend-test.false));
+      relaxed = sink_end g.met.S.Quote.Amount.lawful B c.args.state.now _ _ c.loop-weekend.weekend c.loop-weekend.invariant.0 (omega (arith, c.weekends-weekend-end.ensures, c.loop-weekend-test.false));
       same = c.loop-weekend.invariant.1;
     }
