@@ -1,7 +1,7 @@
 -- Where a search begins, and that its steps keep its invariant. Assumes nothing.
 use Rattle.std.proofs.Common.{◌≡◌, ℕ, zero, suc, ◌<◌, Bool, true, false, ltb, [], ◌∷◌, sym, refl, subst, inr, arith}
 use Rattle.std.proofs.lemmas.Bool.{le-ltb}
-use Rattle.amounts.specs.Kind.{Kind, Lawful, law_limit, AtMost}
+use Rattle.amounts.specs.Kind.{Kind, Lawful, law_limit}
 use Rattle.amounts.specs.Sums.{tally}
 use Rattle.amounts.proofs.Solve.{var, nil, ◌⊕◌, ⊖, linear}
 use Rattle.plans.specs.Problem.{Problem}

@@ -1,5 +1,5 @@
 -- A label that is offered to a node is taken or left. Assumes nothing.
-use Rattle.std.proofs.Common.{◌≡◌, ℕ, ◌+◌, ◌<◌, ◌≤◌, Bool, true, false, not, ◌&&◌, ◌||◌, ltb, List, length, get_or, set, Some, None, Option, sym, refl, subst₂, arith, length-set}
+use Rattle.std.proofs.Common.{◌≡◌, ℕ, ◌+◌, ◌<◌, ◌≤◌, Bool, true, false, not, ◌&&◌, ◌||◌, ltb, List, length, set, Some, None, sym, refl, subst₂, arith, length-set}
 use Rattle.std.specs.Ordering.{is_lt}
 use Rattle.std.proofs.lemmas.List.{get_or-set_same, get_or-set_other}
 use Rattle.std.proofs.lemmas.Bool.{lt-ltb, le-ltb, both_ways}
@@ -10,7 +10,7 @@ use Rattle.solver.specs.declared.arcs.Arc.{Arc}
 use Rattle.solver.specs.declared.trail.Trail.{Trail}
 use Rattle.solver.specs.Search.{nodes}
 use Rattle.solver.specs.Soft.{soft_kind}
-use Rattle.solver.specs.Held.{Memory, memory, new_of, seen_of, rank_of, takes, Kept, SameAt, Offered}
+use Rattle.solver.specs.Held.{Memory, memory, new_of, seen_of, rank_of, takes, Offered}
 use Rattle.solver.proofs.Banks.{bank_set_here, bank_set_other, old_kept}
 
 takes_not : (r s t : Bool) → r ≡ true → (not r && (not s || t)) ≡ false

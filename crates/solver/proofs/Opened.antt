@@ -1,5 +1,5 @@
 -- Where a search for a least assignment begins: the problem is sound, and each book has an open weekend. Assumes nothing.
-use Rattle.std.proofs.Common.{◌≡◌, ℕ, ◌^◌, ◌<◌, ◌≤◌, true, List, is_some, IfSome, sym, ◌∙◌, arith}
+use Rattle.std.proofs.Common.{◌≡◌, ℕ, ◌^◌, ◌<◌, ◌≤◌, true, List, is_some, IfSome, ◌∙◌, arith}
 use Rattle.amounts.specs.Kind.{Kind, Lawful}
 use Rattle.plans.specs.declared.class_tree.Roster.{Roster}
 use Rattle.plans.specs.declared.bound_table.Bounds.{Bounds}

@@ -1,11 +1,11 @@
 -- Which arcs lead out of a node, by their stages. Assumes nothing.
-use Rattle.std.proofs.Common.{◌≡◌, ℕ, zero, suc, ◌+◌, ◌*◌, ◌<◌, ◌≤◌, Bool, true, sym, refl, ap, ◌∙◌, arith}
+use Rattle.std.proofs.Common.{◌≡◌, ℕ, zero, suc, ◌+◌, ◌*◌, ◌<◌, ◌≤◌, Bool, true, sym, refl, ◌∙◌, arith}
 use Rattle.amounts.specs.Kind.{Kind}
 use Rattle.plans.specs.Problem.{Problem}
 use Rattle.plans.specs.Theorems.{Sound}
 use Rattle.solver.specs.declared.arcs.Arc.{Arc}
 use Rattle.solver.specs.declared.arcs.Arc.TheVariants.{Rise, Fall, Move}
-use Rattle.solver.specs.Residual.{node, sink, above, Live, tail}
+use Rattle.solver.specs.Residual.{node, sink, Live, tail}
 use Rattle.solver.specs.Search.{stage}
 use Rattle.solver.proofs.Above.{above_root, above_other}
 

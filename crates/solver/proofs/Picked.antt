@@ -1,12 +1,9 @@
 -- The node with the least key, as the code finds it: node by node. Assumes nothing.
-use Rattle.std.proofs.Common.{◌≡◌, ℕ, ◌+◌, ◌*◌, ◌^◌, ◌<◌, ◌≤◌, Bool, true, false, cond, ◌&&◌, ◌⊎◌, [], ◌∷◌, Some, None, Option, Ordering, Less, Equal, Greater, sym, refl, ap, ◌∙◌, subst, inl, inr, ⊎_elim, arith, below_more, MatchOption}
+use Rattle.std.proofs.Common.{◌≡◌, ℕ, ◌+◌, ◌*◌, ◌^◌, ◌<◌, ◌≤◌, Bool, true, false, cond, Some, None, Option, Ordering, Less, Equal, Greater, sym, refl, ap, ◌∙◌, subst, inl, inr, arith, below_more, MatchOption}
 use Rattle.std.specs.Ordering.{is_lt}
 use Rattle.std.proofs.lemmas.Bool.{both_ways}
-use Rattle.amounts.specs.declared.money.Money.{Money}
-use Rattle.amounts.specs.declared.ranked.Ranked.{Ranked}
 use Rattle.amounts.specs.Kind.{Kind, Lawful, law_limit, AtMost}
 use Rattle.amounts.proofs.Order.{at_most_trans, at_most_unless_less}
-use Rattle.amounts.proofs.Solve.{var, ◌⊕◌, ⊖, linear}
 use Rattle.solver.specs.declared.searching.Keyed.{Keyed}
 use Rattle.solver.specs.Search.{nodes}
 use Rattle.solver.specs.Soft.{soft_kind}

@@ -1,5 +1,5 @@
 -- A book that stays or is taken elsewhere, and labels found anew: the labels show the assignment least as before. Assumes nothing.
-use Rattle.std.proofs.Common.{◌≡◌, ℕ, ◌*◌, ◌^◌, ◌<◌, ◌≤◌, Bool, true, false, List, length, get_or, set, replicate, None, Option, sym, refl, ap, ◌∙◌, subst, subst₂, ⊎_elim, arith}
+use Rattle.std.proofs.Common.{◌≡◌, ℕ, ◌^◌, ◌<◌, ◌≤◌, Bool, true, false, List, length, get_or, set, replicate, None, Option, sym, ap, ◌∙◌, subst, subst₂, ⊎_elim, arith}
 use Rattle.std.proofs.lemmas.List.{get_or-set_same, get_or-set_other, get_or-replicate, get_or_past, length-replicate}
 use Rattle.std.proofs.lemmas.Bool.{cases_eq, cases_lt}
 use Rattle.amounts.specs.declared.money.Money.{Money}
@@ -12,9 +12,9 @@ use Rattle.plans.specs.Theorems.{Sound}
 use Rattle.solver.specs.declared.arcs.Arc.{Arc}
 use Rattle.solver.specs.declared.state.State.{State}
 use Rattle.solver.specs.Soft.{soft_kind, softened}
-use Rattle.solver.specs.Residual.{node, quoted, moving, Counts, Inside, Valid, LightLabels}
+use Rattle.solver.specs.Residual.{node, quoted, moving, Counts, Inside}
 use Rattle.solver.specs.Search.{nodes}
-use Rattle.solver.specs.Flows.{Straight, Shown, soft_charges, SearchDone}
+use Rattle.solver.specs.Flows.{Straight, Shown, soft_charges}
 use Rattle.solver.specs.Held.{Memory, old_of, new_of, seen_of, rank_of, via_of, word_at, SearchableIn, Searches, ShownIn, Walkable}
 use Rattle.solver.specs.Reassigning.{Started, Stays}
 use Rattle.solver.proofs.Soft.{soft_lawful}

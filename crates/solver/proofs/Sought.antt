@@ -1,17 +1,15 @@
 -- The loop of the search: how it begins, goes on and ends. Assumes nothing.
-use Rattle.std.proofs.Common.{◌≡◌, ℕ, suc, ◌+◌, ◌*◌, ◌^◌, ◌<◌, ◌≤◌, Bool, true, false, ◌&&◌, ltb, leb, List, [], ◌∷◌, length, get_or, set, Some, None, Option, sym, refl, ap, ◌∙◌, subst, inr, ⊎_elim, arith}
+use Rattle.std.proofs.Common.{◌≡◌, ℕ, suc, ◌*◌, ◌^◌, ◌<◌, ◌≤◌, Bool, true, false, ltb, leb, [], ◌∷◌, length, set, None, sym, refl, ◌∙◌, subst, inr, ⊎_elim, arith}
 use Rattle.std.proofs.lemmas.List.{get_or_past, get_or-set_same, get_or-set_other}
-use Rattle.std.proofs.lemmas.Bool.{cases_lt, cases_Bool, both_ways, and_parts, and_from, leb-true, le-leb, ltb-true, lt-ltb, le-ltb}
+use Rattle.std.proofs.lemmas.Bool.{cases_lt, cases_Bool, both_ways, and_parts, and_from, leb-true, le-leb, ltb-true}
 use Rattle.amounts.specs.declared.money.Money.{Money}
 use Rattle.amounts.specs.declared.ranked.Ranked.{Ranked}
 use Rattle.amounts.specs.Kind.{Kind, Lawful, law_limit, AtMost}
-use Rattle.amounts.specs.Sums.{tally}
 use Rattle.amounts.proofs.Numbers.{tally_miss}
 use Rattle.amounts.proofs.Solve.{var, ◌⊕◌, ⊖, linear}
 use Rattle.plans.specs.Places.{at}
 use Rattle.plans.specs.Problem.{Problem}
 use Rattle.solver.specs.declared.state.State.{State}
-use Rattle.solver.specs.declared.trail.Trail.{Trail}
 use Rattle.solver.specs.Soft.{soft_kind, softened}
 use Rattle.solver.specs.Search.{nodes, stages, Before}
 use Rattle.solver.specs.Flows.{soft_charges, SearchKept}

@@ -1,5 +1,5 @@
 -- One book is taken to other weekends: where its search starts, and when it may stay. Assumes nothing.
-use Rattle.std.specs.Prelude.{◌≡◌, ℕ, ◌*◌, ◌^◌, ◌<◌, ◌≤◌, Bool, true, length, None}
+use Rattle.std.specs.Prelude.{◌≡◌, ℕ, ◌^◌, ◌<◌, ◌≤◌, Bool, true, length, None}
 use Rattle.std.specs.Ordering.{is_le}
 use Rattle.amounts.specs.declared.money.Money.{Money}
 use Rattle.amounts.specs.declared.ranked.Ranked.{Ranked}

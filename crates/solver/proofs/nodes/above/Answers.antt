@@ -1,4 +1,4 @@
-use Rattle.std.proofs.Common.{◌≡◌, ◌+◌, ◌*◌, ◌<◌, sym, ap, ◌∙◌, arith}
+use Rattle.std.proofs.Common.{◌+◌, ◌*◌, ◌<◌, sym, ap, ◌∙◌, arith}
 use Rattle.plans.specs.Places.{at}
 use Rattle.solver.specs.Residual.{above}
 use Rattle.solver.proofs.Above.{above_root, above_other}

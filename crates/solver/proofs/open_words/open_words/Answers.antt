@@ -10,8 +10,8 @@ pub loop-book-preserved : goal.loop-book-preserved
 loop-book-preserved g c =
     let s = c.args.source.now in
     let few = g.S.Source.ranges.few_books s in (
-      words_more (λ b w. is_some (g.S.Source.table s b w)) c.loop-book.book c.loop-book.words c.open-word.result c.loop-book.invariant.0 (omega (arith, c.books-book-end.ensures)) c.open-word.ensures.bits,
-      below_more _ _ c.loop-book.invariant.1 c.open-word.ensures.light,
+      words_more (λ b w. is_some (g.S.Source.table s b w)) c.loop-book.book c.loop-book.words c.open_word.result c.loop-book.invariant.0 (omega (arith, c.books-book-end.ensures)) c.open_word.ensures.bits,
+      below_more _ _ c.loop-book.invariant.1 c.open_word.ensures.light,
       simp length-set c.loop-book.invariant.2,
     )
 

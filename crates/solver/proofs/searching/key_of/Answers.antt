@@ -1,4 +1,4 @@
-use Rattle.std.proofs.Common.{◌≡◌, sym, ap, ◌∙◌, ap₂, arith}
+use Rattle.std.proofs.Common.{sym, ap, ◌∙◌, ap₂}
 use Rattle.solver.specs.Search.{nodes}
 use Rattle.solver.specs.Soft.{soft_kind}
 use Rattle.solver.specs.Held.{label}

@@ -16,6 +16,6 @@ loop-weekend-preserved g c =
     let found = c.loop-weekend.found in
     elim c.if-has.branch [
       | then-has w ↦ subst (Found quotes _) (sym w.found-is)
-          (found_open quotes c.args.word c.requires n found c.loop-weekend.invariant w.if-has.ensures w.price-weekend-more.result w.cheaper.result w.price-weekend-more.ensures w.cheaper.ensures)
+          (found_open quotes c.args.word c.requires n found c.loop-weekend.invariant w.if-has.ensures w.price_weekend-more.result w.cheaper.result w.price_weekend-more.ensures w.cheaper.ensures)
       | else-has w ↦ subst (Found quotes _) (sym w.found-is) (found_shut quotes c.args.word c.requires n found c.loop-weekend.invariant w.if-has.ensures)
     ]

@@ -7,12 +7,12 @@ use Rattle.solver.proofs.start.first_state.Goals as goal
 pub loop-book-init : goal.loop-book-init
 loop-book-init g c = (placed_none (meaning g.S.Source c.args.source.now) c.args.roster.now 120 128 120, refl, refl)
 
-pub returns-in-err-best : goal.returns-in-err-best
-returns-in-err-best g c =
+pub returns-in_err-best : goal.returns-in_err-best
+returns-in_err-best g c =
     let s = c.args.source.now in
     let books = c.books-book-end.ensures in
-    rw c.from-residual.ensures (none_open (g.S.Source.count s) (g.S.Source.weeks s) (g.S.Source.table s) c.loop-book.book (omega arith)
-    (subst (Found (g.S.Source.table s c.loop-book.book) (g.S.Source.weeks s)) c.in-err-best.was c.cheapest.ensures))
+    rw c.from_residual.ensures (none_open (g.S.Source.count s) (g.S.Source.weeks s) (g.S.Source.table s) c.loop-book.book (omega arith)
+    (subst (Found (g.S.Source.table s c.loop-book.book) (g.S.Source.weeks s)) c.in_err-best.was c.cheapest.ensures))
 
 pub place-requires : goal.place-requires
 place-requires g c =
@@ -20,11 +20,11 @@ place-requires g c =
     let books = c.books-book-end.ensures in
     let few = g.S.Source.ranges.few_books s in
     let weeks = g.S.Source.ranges.few_weeks s in
-    let found = subst (Found (g.S.Source.table s c.loop-book.book) (g.S.Source.weeks s)) c.in-ok-best.was c.cheapest.ensures in
+    let found = subst (Found (g.S.Source.table s c.loop-book.book) (g.S.Source.weeks s)) c.in_ok-best.was c.cheapest.ensures in
     record {
       near = omega (arith, found.0);
       within = omega arith;
-      room = placed_room (meaning g.S.Source s) c.args.roster.now c.loop-book.book c.loop-book.state c.loop-book.invariant.0 c.in-ok-best.best.weekend (omega arith) (omega (arith, found.0));
+      room = placed_room (meaning g.S.Source s) c.args.roster.now c.loop-book.book c.loop-book.state c.loop-book.invariant.0 c.in_ok-best.best.weekend (omega arith) (omega (arith, found.0));
     }
 
 pub loop-book-preserved : goal.loop-book-preserved
@@ -32,10 +32,10 @@ loop-book-preserved g c =
     let s = c.args.source.now in
     let books = c.books-book-end.ensures in
     let few = g.S.Source.ranges.few_books s in
-    let found = subst (Found (g.S.Source.table s c.loop-book.book) (g.S.Source.weeks s)) c.in-ok-best.was c.cheapest.ensures in
+    let found = subst (Found (g.S.Source.table s c.loop-book.book) (g.S.Source.weeks s)) c.in_ok-best.was c.cheapest.ensures in
     let before = c.loop-book.state in
     let after = c.place.new.state in (
-      placed_more (meaning g.S.Source s) c.args.roster.now c.loop-book.book before c.loop-book.invariant.0 c.in-ok-best.best.weekend
+      placed_more (meaning g.S.Source s) c.args.roster.now c.loop-book.book before c.loop-book.invariant.0 c.in_ok-best.best.weekend
           after (omega arith) (omega arith) c.place.ensures.sent c.place.ensures.words found.0 found.1 c.place.ensures.counts,
       still_long 120 before.sent after.sent c.loop-book.book _ c.place.ensures.sent c.loop-book.invariant.1,
       still_long 120 before.words after.words c.loop-book.book _ c.place.ensures.words c.loop-book.invariant.2,

@@ -20,14 +20,14 @@ pub loop-arc-preserved : goal.loop-arc-preserved
 loop-arc-preserved g c = let s = turn g c in (s.walks, s.words ∙ c.loop-arc.invariant.1, s.within)
 
 pub place-requires : goal.place-requires
-place-requires g c = (omega (arith, c.requires.walkable.book, c.requires.walkable.fits.sound.books), start_weekend g.met.S.Quote.Amount.lawful _ _ _ _ _ c.requires.walkable _ _ c.loop-arc.invariant.0 c.in-default.ensures)
+place-requires g c = (omega (arith, c.requires.walkable.book, c.requires.walkable.fits.sound.books), start_weekend g.met.S.Quote.Amount.lawful _ _ _ _ _ c.requires.walkable _ _ c.loop-arc.invariant.0 c.in_default.ensures)
 
 pub returns : goal.returns
 returns g c =
     let i = c.loop-arc.invariant in
     let o = c.place.ensures in
     record {
-      shown = subst (ShownIn g.S.Quote.Amount.kind _ c.place.new.state) (sym c.adopt.ensures.old) (shown g.met.S.Quote.Amount.lawful _ _ _ _ _ c.requires.walkable _ _ _ i.0 c.in-default.ensures o.places.0 o.places.1 o.after);
+      shown = subst (ShownIn g.S.Quote.Amount.kind _ c.place.new.state) (sym c.adopt.ensures.old) (shown g.met.S.Quote.Amount.lawful _ _ _ _ _ c.requires.walkable _ _ _ i.0 c.in_default.ensures o.places.0 o.places.1 o.after);
       words = ap (λ s. s.words) o.after ∙ ap (λ w. set w c.args.book c.args.into) i.1;
       place = omega (arith, o.places.1, ap length i.1);
       long = c.adopt.ensures.long;

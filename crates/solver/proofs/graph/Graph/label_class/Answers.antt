@@ -19,9 +19,9 @@ returns g c =
     let sheet = c.args.labels.now.sheet.now in
     let x = c.sum.result in
     let r = c.read-over.ensures in
-    let v = c.node-of-node.result in
-    let u : v ≡ node w k = c.node-of-node.ensures.is in
-    let within : node w k < nodes = omega (arith, c.node-of-node.ensures.within, u) in
+    let v = c.node_of-node.result in
+    let u : v ≡ node w k = c.node_of-node.ensures.is in
+    let within : node w k < nodes = omega (arith, c.node_of-node.ensures.within, u) in
     let e : c.level-entry.result ≡ entry K B f w k =
     c.level-entry.ensures ∙ ap₂ (λ a b. level (soft_kind K) (violation K) a b (f v)) c.lower-lower.ensures c.upper-upper.ensures ∙ ap (λ n. level (soft_kind K) (violation K) (B.lower w k) (B.upper w k) (f n)) u in
     let above-is = read_above K B f heads sheet w k c.above.result c.read-over.result c.above.ensures.within c.above.ensures.is r.read in

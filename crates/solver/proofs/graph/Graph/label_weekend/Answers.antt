@@ -8,7 +8,7 @@ pub loop-class-preserved : goal.loop-class-preserved
 loop-class-preserved g c =
     let B = posed_by g.S.Source g.S.Quote.Amount.kind c.args.self.now in
     let i = c.loop-class.invariant in
-    let o = c.label-class.ensures in (
+    let o = c.label_class.ensures in (
       flat_next g.met.S.Quote.Amount.lawful B (at c.args.state.now.counts) c.requires.sound _ _ c.args.weekend c.loop-class.class c.requires.weekend (omega (arith, c.classes-class-end.ensures)) i.0 o.labelled,
       o.long ∙ i.1,
       o.same ∙ i.2,

@@ -1,6 +1,6 @@
 use Rattle.std.proofs.Common.{length, sym, refl, ap, ◌∙◌, ap₂, subst₂, arith}
 use Rattle.plans.proofs.Posing.{bounds_straight}
-use Rattle.solver.specs.Held.{bank, posed_by, memory, memory_of, ShownIn}
+use Rattle.solver.specs.Held.{bank, posed_by, memory_of, ShownIn}
 use Rattle.solver.proofs.Retaken.{stay_shown, walkable}
 use Rattle.solver.proofs.graph.Graph.reassign.Goals as goal
 
@@ -24,14 +24,14 @@ augment-requires g c =
     let K = g.S.Quote.Amount.kind in
     let B = posed_by g.S.Source K c.args.self.now in
     let state = c.args.state.now in
-    let t = c.start-at-trail.result in
+    let t = c.start_at-trail.result in
     let e = c.if-stays.ensures in
-    let st = c.start-at-trail.ensures.started in
+    let st = c.start_at-trail.ensures.started in
     let se = c.search.ensures.searched in
     let some = c.requires.some in
     let shown = subst₂ (λ h s. ShownIn K B state (bank K 0 h s)) (sym e.heads) (sym e.sheet) c.requires.shown in
     record {
-      walkable = walkable g.met.S.Quote.Amount.lawful B c.requires.sound (λ w k _ _. bounds_straight c.args.self.now.bounds.now w k) state (memory_of c.stays.new.labels t) (memory_of c.start-at-trail.new.labels t) (memory_of c.search.new.labels c.search.new.trail) c.args.book c.args.into some.0 c.requires.book some.1 some.2 shown st se;
+      walkable = walkable g.met.S.Quote.Amount.lawful B c.requires.sound (λ w k _ _. bounds_straight c.args.self.now.bounds.now w k) state (memory_of c.stays.new.labels t) (memory_of c.start_at-trail.new.labels t) (memory_of c.search.new.labels c.search.new.trail) c.args.book c.args.into some.0 c.requires.book some.1 some.2 shown st se;
       room = omega (arith, c.requires.room, ap length e.sheet, st.long, se.long);
     }
 
@@ -43,6 +43,6 @@ returns g c =
       shown = a.shown;
       words = a.words;
       place = a.place;
-      long = a.long ∙ c.search.ensures.searched.long ∙ c.start-at-trail.ensures.started.long ∙ ap length e.sheet;
-      same = a.same ∙ c.search.ensures.same ∙ c.start-at-trail.ensures.same ∙ e.same;
+      long = a.long ∙ c.search.ensures.searched.long ∙ c.start_at-trail.ensures.started.long ∙ ap length e.sheet;
+      same = a.same ∙ c.search.ensures.same ∙ c.start_at-trail.ensures.same ∙ e.same;
     }

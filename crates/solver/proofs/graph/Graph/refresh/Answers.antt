@@ -1,4 +1,4 @@
-use Rattle.std.proofs.Common.{◌<◌, sym, ap, ◌∙◌, subst, arith}
+use Rattle.std.proofs.Common.{◌<◌, sym, ◌∙◌, subst, arith}
 use Rattle.amounts.specs.Kind.{AtMost}
 use Rattle.plans.proofs.Posing.{bounds_straight}
 use Rattle.solver.specs.Soft.{soft_kind}

@@ -13,10 +13,10 @@ returns-then-class-classes g c =
     let v = c.args.node in
     let whole : node (v / 8) (v % 8) ≡ v = omega arith in
     record {
-      relaxed = subst (λ u. Relaxes K B c.args.state.now (memory_of c.args.labels.now c.args.trail.now) (memory_of c.take-moves.new.labels c.take-moves.new.trail) u 0 stages) whole
-          (relaxes_all g.met.S.Quote.Amount.lawful B c.args.state.now (v / 8) (v % 8) (omega (arith, c.weekends.ensures)) (omega (arith, c.classes.ensures)) _ (memory_of c.take-rise.new.labels c.take-rise.new.trail) (memory_of c.take-falls.new.labels c.take-falls.new.trail) _
-          c.take-rise.ensures.relaxed c.take-falls.ensures.relaxed c.take-moves.ensures.relaxed);
-      same = c.take-moves.ensures.same ∙ c.take-falls.ensures.same ∙ c.take-rise.ensures.same;
+      relaxed = subst (λ u. Relaxes K B c.args.state.now (memory_of c.args.labels.now c.args.trail.now) (memory_of c.take_moves.new.labels c.take_moves.new.trail) u 0 stages) whole
+          (relaxes_all g.met.S.Quote.Amount.lawful B c.args.state.now (v / 8) (v % 8) (omega (arith, c.weekends.ensures)) (omega (arith, c.classes.ensures)) _ (memory_of c.take_rise.new.labels c.take_rise.new.trail) (memory_of c.take_falls.new.labels c.take_falls.new.trail) _
+          c.take_rise.ensures.relaxed c.take_falls.ensures.relaxed c.take_moves.ensures.relaxed);
+      same = c.take_moves.ensures.same ∙ c.take_falls.ensures.same ∙ c.take_rise.ensures.same;
     }
 
 pub returns-else-weekend-weekends : goal.returns-else-weekend-weekends

@@ -1,4 +1,4 @@
-use Rattle.std.proofs.Common.{◌≡◌, suc, ◌+◌, ◌<◌, length, sym, refl, ap, ◌∙◌, subst, subst₂, add-one, arith}
+use Rattle.std.proofs.Common.{◌≡◌, length, sym, refl, ap, ◌∙◌, subst₂, add-one, arith}
 use Rattle.solver.specs.Search.{nodes}
 use Rattle.solver.specs.Held.{posed_by, memory, memory_of, NoneOpen, NearestOpen}
 use Rattle.solver.proofs.Sought.{Sought, sought_begin, sought_next, sought_end, sought_all}
@@ -12,11 +12,11 @@ loop-turn-init g c =
 pub pick-requires : goal.pick-requires
 pick-requires g c = omega (arith, c.requires, c.loop-turn.invariant.0.long)
 
-pub returns-in-default : goal.returns-in-default
-returns-in-default g c =
+pub returns-in_default : goal.returns-in_default
+returns-in_default g c =
     let L = g.met.S.Quote.Amount.lawful in
     let B = posed_by g.S.Source g.S.Quote.Amount.kind c.args.self.now in
-    let e = c.in-default.ensures in
+    let e = c.in_default.ensures in
     let t = c.loop-turn.trail in
     let m₀ = memory_of c.args.labels.now c.args.trail.now in
     let i = subst₂ (λ h s. Sought L B c.args.state.now m₀ (memory h s t) c.loop-turn.turn) (sym e.heads) (sym e.sheet) c.loop-turn.invariant.0 in

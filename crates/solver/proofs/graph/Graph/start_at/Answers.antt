@@ -25,8 +25,8 @@ loop-weekend-preserved g c =
     elim c.if-has.branch [
       | then-has y ↦ (
         subst₂ (λ l t. Starting K B b into m (memory_of l t) (n + 1)) (sym y.labels-is) (sym y.trail-is)
-            (starting_more K B b into m l.heads _ l.sheet.now _ t n y.node-of-node.result y.soft-quote.result (omega arith) y.write.ensures.places (omega arith) (sym y.if-has.ensures)
-            (y.node-of-node.ensures.is ∙ ap (node n) c.class-of-class.ensures.value) y.soft-quote.ensures y.write.ensures.heads y.write.ensures.sheet i.0),
+            (starting_more K B b into m l.heads _ l.sheet.now _ t n y.node_of-node.result y.soft_quote.result (omega arith) y.write.ensures.places (omega arith) (sym y.if-has.ensures)
+            (y.node_of-node.ensures.is ∙ ap (node n) c.class_of-class.ensures.value) y.soft_quote.ensures y.write.ensures.heads y.write.ensures.sheet i.0),
         ap (λ l. l.sheet.ghost_name) y.labels-is ∙ y.write.ensures.same ∙ i.1,
       )
       | else-has y ↦ (

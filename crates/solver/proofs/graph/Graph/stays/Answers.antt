@@ -7,7 +7,7 @@ use Rattle.solver.specs.Held.{bank, posed_by}
 use Rattle.solver.specs.Reassigning.{stays_by}
 use Rattle.solver.proofs.Beginning.{tried_skip, tried_more, tried_all}
 use Rattle.solver.proofs.graph.Graph.stays.Goals as goal
-use Rattle.solver.proofs.graph.Graph.stays.Goals.{else-has-via-then-has+else-not-stays-by, else-has-via-else-has}
+use Rattle.solver.proofs.graph.Graph.stays.Goals.{else-has-via-then-has+else-not-stays_by, else-has-via-else-has}
 
 pub returns-then-not-has : goal.returns-then-not-has
 returns-then-not-has g c = record { stays = λ e. absurd (both_ways false refl e); heads = refl; sheet = refl; same = refl }
@@ -15,22 +15,22 @@ returns-then-not-has g c = record { stays = λ e. absurd (both_ways false refl e
 pub loop-weekend-init : goal.loop-weekend-init
 loop-weekend-init g c = (λ x l e. absurd (not-suc-le-zero l), refl, refl, refl)
 
-pub stays-by-requires : goal.stays-by-requires
-stays-by-requires g c =
+pub stays_by-requires : goal.stays_by-requires
+stays_by-requires g c =
     let K = g.S.Quote.Amount.kind in
     let table = g.S.Source.table c.args.self.now.source.now in
     record {
       book = c.requires.book;
       sent = c.requires.sent;
       weekend = omega (arith, c.weekends-weekend-end.ensures);
-      leaving = c.opposite-leaving.ensures ∙ ap (soft_kind K).minus (c.soft-quote.ensures ∙ ap (λ y. or_none (soft_kind K) (behind (table c.args.book y))) c.from-from.ensures);
+      leaving = c.opposite-leaving.ensures ∙ ap (soft_kind K).minus (c.soft_quote.ensures ∙ ap (λ y. or_none (soft_kind K) (behind (table c.args.book y))) c.from-from.ensures);
       room = omega (arith, c.requires.room, ap length c.loop-weekend.invariant.2);
     }
 
-pub returns-then-not-stays-by : goal.returns-then-not-stays-by
-returns-then-not-stays-by g c =
+pub returns-then-not-stays_by : goal.returns-then-not-stays_by
+returns-then-not-stays_by g c =
     let i = c.loop-weekend.invariant in
-    let o = c.stays-by.ensures in
+    let o = c.stays_by.ensures in
     record { stays = λ e. absurd (both_ways false refl e); heads = o.heads ∙ i.1; sheet = o.sheet ∙ i.2; same = o.same ∙ i.3 }
 
 pub loop-weekend-preserved : goal.loop-weekend-preserved
@@ -44,8 +44,8 @@ loop-weekend-preserved g c =
     let n = c.loop-weekend.weekend in
     let i = c.loop-weekend.invariant in
     elim c.else-has.branch [
-      | else-has-via-then-has+else-not-stays-by w ↦ let o = w.stays-by.ensures in (
-        tried_more K B state old b c.args.into n (ap₂ (λ h s. stays_by K B state (bank K 0 h s) b n) (sym i.1) (sym i.2) ∙ sym w.if-not-stays-by.ensures.value) i.0,
+      | else-has-via-then-has+else-not-stays_by w ↦ let o = w.stays_by.ensures in (
+        tried_more K B state old b c.args.into n (ap₂ (λ h s. stays_by K B state (bank K 0 h s) b n) (sym i.1) (sym i.2) ∙ sym w.if-not-stays_by.ensures.value) i.0,
         ap (λ l. l.heads) w.labels-is ∙ o.heads ∙ i.1,
         ap (λ l. l.sheet.now) w.labels-is ∙ o.sheet ∙ i.2,
         ap (λ l. l.sheet.ghost_name) w.labels-is ∙ o.same ∙ i.3,

@@ -1,6 +1,5 @@
-use Rattle.std.proofs.Common.{◌≡◌, suc, ◌+◌, ◌<◌, sym, refl, ap, ◌∙◌, ap₂, arith}
+use Rattle.std.proofs.Common.{◌≡◌, suc, ◌+◌, ◌<◌, refl, ap, ◌∙◌, ap₂, arith}
 use Rattle.plans.specs.Places.{at}
-use Rattle.plans.specs.Bounding.{bound_at}
 use Rattle.solver.specs.declared.arcs.Arc.TheVariants.{Fall}
 use Rattle.solver.specs.Residual.{node, above}
 use Rattle.solver.specs.Search.{nodes}
@@ -19,14 +18,14 @@ returns g c =
     let l = c.args.labels.now in
     let t = c.args.trail.now in
     let r = c.read.ensures in
-    let u = c.node-of-node.ensures.is in
+    let u = c.node_of-node.ensures.is in
     let tail : c.above-tail.result ≡ above B.parent w k = c.above-tail.ensures.is in
     let small : above B.parent w k < nodes = omega (arith, c.above-tail.ensures.within, tail) in
     let cost : c.fall-cost.result ≡ fall (soft_kind K) (violation K) (B.lower w k) (B.upper w k) (at counts (node w k)) =
-    c.fall-cost.ensures ∙ ap₂ (λ a b. fall (soft_kind K) (violation K) a b (at counts c.node-of-node.result)) c.lower-lower.ensures c.upper-upper.ensures ∙ ap (λ n. fall (soft_kind K) (violation K) (B.lower w k) (B.upper w k) (at counts n)) u in
+    c.fall-cost.ensures ∙ ap₂ (λ a b. fall (soft_kind K) (violation K) a b (at counts c.node_of-node.result)) c.lower-lower.ensures c.upper-upper.ensures ∙ ap (λ n. fall (soft_kind K) (violation K) (B.lower w k) (B.upper w k) (at counts n)) u in
     let stage : 2 + node w k ≡ suc (1 + node w k) = omega arith in
     record {
-      relaxed = rw stage (relaxes_arc g.met.S.Quote.Amount.lawful B c.args.state.now l.heads c.read.new.self.heads l.sheet.now c.read.new.self.sheet.now t (memory_of c.offer.new.labels c.offer.new.trail) (Fall w k) c.node-of-node.result (above B.parent w k) (1 + node w k) c.sum-label.result
+      relaxed = rw stage (relaxes_arc g.met.S.Quote.Amount.lawful B c.args.state.now l.heads c.read.new.self.heads l.sheet.now c.read.new.self.sheet.now t (memory_of c.offer.new.labels c.offer.new.trail) (Fall w k) c.node_of-node.result (above B.parent w k) (1 + node w k) c.sum-label.result
           r.heads r.sheet u (c.sum-label.ensures ∙ ap₂ (soft_kind K).plus (read_new K l.heads l.sheet.now t c.above-tail.result (above B.parent w k) c.read.result small tail r.read) cost)
           c.offer.ensures.offered (c.requires.weekend, c.requires.class) refl refl);
       same = c.offer.ensures.same ∙ r.same;

@@ -1,4 +1,4 @@
-use Rattle.std.proofs.Common.{◌≡◌, ◌+◌, ◌*◌, ◌<◌, ◌≤◌, sym, refl, ap, ◌∙◌, subst₂, arith}
+use Rattle.std.proofs.Common.{◌+◌, sym, refl, ap, ◌∙◌, subst₂, arith}
 use Rattle.solver.specs.Residual.{node}
 use Rattle.solver.specs.Held.{posed_by, memory_of, Relaxes}
 use Rattle.solver.proofs.Sweeping.{falls_begin, falls_skip, falls_take, falls_end}
@@ -10,8 +10,8 @@ loop-below-init g c =
     let B = posed_by g.S.Source g.S.Quote.Amount.kind c.args.self.now in
     (falls_begin g.met.S.Quote.Amount.lawful B c.args.state.now c.args.weekend c.args.class c.requires.weekend c.requires.class _, refl)
 
-pub take-fall-requires : goal.take-fall-requires
-take-fall-requires g c = record { weekend = c.requires.weekend; class = omega (arith, c.classes-below-end.ensures); room = omega (arith, c.requires.room, c.loop-below.invariant.0.kept.long) }
+pub take_fall-requires : goal.take_fall-requires
+take_fall-requires g c = record { weekend = c.requires.weekend; class = omega (arith, c.classes-below-end.ensures); room = omega (arith, c.requires.room, c.loop-below.invariant.0.kept.long) }
 
 pub loop-below-preserved : goal.loop-below-preserved
 loop-below-preserved g c =
@@ -27,8 +27,8 @@ loop-below-preserved g c =
     elim c.if-parent-class.branch [
       | then-parent-class x ↦ (
         subst₂ (λ l t. Relaxes K B state m (memory_of l t) (node w k) 1 (1 + node w (d + 1))) (sym x.labels-is) (sym x.trail-is)
-            (falls_take L B state w k c.requires.weekend c.requires.class m m₁ (memory_of x.take-fall.new.labels x.take-fall.new.trail) d c.loop-below.invariant.0 c.loop-below.auto.below (sym c.parent.ensures ∙ x.if-parent-class.true) x.take-fall.ensures.relaxed),
-        ap (λ l. l.sheet.ghost_name) x.labels-is ∙ x.take-fall.ensures.same ∙ c.loop-below.invariant.1,
+            (falls_take L B state w k c.requires.weekend c.requires.class m m₁ (memory_of x.take_fall.new.labels x.take_fall.new.trail) d c.loop-below.invariant.0 c.loop-below.auto.below (sym c.parent.ensures ∙ x.if-parent-class.true) x.take_fall.ensures.relaxed),
+        ap (λ l. l.sheet.ghost_name) x.labels-is ∙ x.take_fall.ensures.same ∙ c.loop-below.invariant.1,
       )
       | else-parent-class x ↦ (
         subst₂ (λ l t. Relaxes K B state m (memory_of l t) (node w k) 1 (1 + node w (d + 1))) (sym x.labels-is) (sym x.trail-is)

@@ -1,4 +1,4 @@
-use Rattle.std.proofs.Common.{◌≡◌, ◌+◌, ◌*◌}
+use Rattle.std.proofs.Common.{◌≡◌, ◌+◌}
 use Rattle.solver.specs.Residual.{node}
 use Rattle.solver.specs.Held.{posed_by, memory_of, Relaxes}
 use Rattle.solver.proofs.graph.Graph.take_falls.Given as goal

@@ -1,4 +1,4 @@
-use Rattle.std.proofs.Common.{◌≡◌, ◌+◌, ◌*◌, sym, refl, ap, ◌∙◌, subst₂, arith}
+use Rattle.std.proofs.Common.{◌+◌, ◌*◌, sym, refl, ap, ◌∙◌, subst₂, arith}
 use Rattle.amounts.specs.Least.{or_none}
 use Rattle.plans.specs.Places.{at}
 use Rattle.solver.specs.Residual.{node}
@@ -13,8 +13,8 @@ loop-weekend-init g c =
     let B = posed_by g.S.Source g.S.Quote.Amount.kind c.args.self.now in
     (of_begin g.met.S.Quote.Amount.lawful B c.args.state.now c.args.book c.requires.book c.requires.sent _, refl)
 
-pub take-move-requires : goal.take-move-requires
-take-move-requires g c =
+pub take_move-requires : goal.take_move-requires
+take_move-requires g c =
     let K = g.S.Quote.Amount.kind in
     let table = g.S.Source.table c.args.self.now.source.now in
     record {
@@ -22,7 +22,7 @@ take-move-requires g c =
       sent = c.requires.sent;
       weekend = omega (arith, c.weekends-weekend-end.ensures);
       allowed = sym c.if-has.ensures;
-      leaving = c.opposite-leaving.ensures ∙ ap (soft_kind K).minus (c.soft-quote.ensures ∙ ap (λ y. or_none (soft_kind K) (behind (table c.args.book y))) c.from.ensures);
+      leaving = c.opposite-leaving.ensures ∙ ap (soft_kind K).minus (c.soft_quote.ensures ∙ ap (λ y. or_none (soft_kind K) (behind (table c.args.book y))) c.from.ensures);
       room = omega (arith, c.requires.room, c.loop-weekend.invariant.0.kept.long);
     }
 
@@ -39,8 +39,8 @@ loop-weekend-preserved g c =
     elim c.if-has.branch [
       | then-has y ↦ (
         subst₂ (λ l t. Relaxes K B state m (memory_of l t) (node (at state.sent b) (B.class b)) (129 + b * 16) (129 + (b * 16 + (x + 1)))) (sym y.labels-is) (sym y.trail-is)
-            (of_take L B state b c.requires.book c.requires.sent m m₁ (memory_of y.take-move.new.labels y.take-move.new.trail) x c.loop-weekend.invariant.0 y.take-move.ensures.relaxed),
-        ap (λ l. l.sheet.ghost_name) y.labels-is ∙ y.take-move.ensures.same ∙ c.loop-weekend.invariant.1,
+            (of_take L B state b c.requires.book c.requires.sent m m₁ (memory_of y.take_move.new.labels y.take_move.new.trail) x c.loop-weekend.invariant.0 y.take_move.ensures.relaxed),
+        ap (λ l. l.sheet.ghost_name) y.labels-is ∙ y.take_move.ensures.same ∙ c.loop-weekend.invariant.1,
       )
       | else-has y ↦ (
         subst₂ (λ l t. Relaxes K B state m (memory_of l t) (node (at state.sent b) (B.class b)) (129 + b * 16) (129 + (b * 16 + (x + 1)))) (sym y.labels-is) (sym y.trail-is)
