@@ -4,7 +4,7 @@ use mir.Facts.{Fits-of_z, sfits_to_z}
 use Rattle.std.proofs.lemmas.List.{drop_more, drop_all, get_or-take, get_or-drop}
 use Rattle.std.proofs.lemmas.Int.{to_z-of_z, of_z-to_z}
 use Rattle.std.proofs.lemmas.Bool.Decides.{nat_tests}
-use Rattle.std.specs.List.{AllByRecursion as every_assignment}
+use Rattle.std.specs.List.{AllByRecursion}
 use Rattle.planfile.specs.declared.fields.Price.{Price}
 use Rattle.planfile.specs.Fields.{nonzero, strain, money, price_of}
 use Rattle.planfile.specs.Description.{low_first, price_bytes}
@@ -14,7 +14,7 @@ abbrev value : List ℕ → ℕ
 value [] = 0
 value (b ∷ bs) = b + 256 * value bs
 
-low_value : (bs : List ℕ) → every_assignment (λ b. b < 256) bs → low_first (length bs) (value bs) ≡ bs
+low_value : (bs : List ℕ) → AllByRecursion (λ b. b < 256) bs → low_first (length bs) (value bs) ≡ bs
 low_value [] h = refl
 low_value (b ∷ bs) h =
     let l : b < 256 = h.0 in

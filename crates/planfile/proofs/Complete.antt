@@ -2,7 +2,7 @@
 use Rattle.std.proofs.Common.{◌≡◌, ℕ, zero, suc, ◌+◌, ◌<◌, ◌≤◌, false, List, [], ◌∷◌, ◌++◌, map, length, Ok, sym, refl, ap, ◌∙◌, subst, zero-add, arith}
 use Rattle.std.proofs.ByRecursion.{All-weaker}
 use Rattle.std.proofs.lemmas.Bool.Decides.{nat_tests}
-use Rattle.std.specs.List.{AllByRecursion as every_assignment}
+use Rattle.std.specs.List.{AllByRecursion}
 use Rattle.planfile.specs.declared.progress.FileKind.{FileKind}
 use Rattle.planfile.specs.declared.progress.Place.{Place}
 use Rattle.planfile.specs.declared.progress.Progress.{Progress}
@@ -90,7 +90,7 @@ read_weekends k (suc l) n i p rest low high some e few =
     }
 
 read_books : (k : FileKind) (xs : List ℕ) (n i : ℕ) (p : Progress) (rest : List (List ℕ)) → 2 ≤ rank p.stage → rank p.stage ≤ 3 → 3 ≤ rank p.stage + length xs
-    → p.books ≡ n → n + length xs ≤ 120 → every_assignment (λ c. c < p.classes) xs → Front k i p (numbered book_row n xs) rest 3 3 p.classes p.weekends (n + length xs) p.bounds p.quotes
+    → p.books ≡ n → n + length xs ≤ 120 → AllByRecursion (λ c. c < p.classes) xs → Front k i p (numbered book_row n xs) rest 3 3 p.classes p.weekends (n + length xs) p.bounds p.quotes
 read_books k [] n i p rest low high some e few h =
     record { reads = record { j = i; q = p; runs = refl; low = omega arith; high = high; classes = refl; weekends = refl; books = omega arith; bounds = refl; quotes = refl }; next_bound_same = refl; next_quote_same = refl }
 read_books k (x ∷ xs) n i p rest low high some e few h =
@@ -124,8 +124,8 @@ unfolding before
 first_free a b = grind (arith, nat_tests)
 
 read_bounds : (k : FileKind) (xs : List Bound) (i : ℕ) (p : Progress) (rest : List (List ℕ)) → 3 ≤ rank p.stage → rank p.stage ≤ 4
-    → every_assignment (BoundStands p.weekends p.classes) xs → Rising (λ b. b.weekend) (λ b. b.class) xs
-    → every_assignment (λ b. before (place b.weekend b.class) p.next_bound ≡ false) xs
+    → AllByRecursion (BoundStands p.weekends p.classes) xs → Rising (λ b. b.weekend) (λ b. b.class) xs
+    → AllByRecursion (λ b. before (place b.weekend b.class) p.next_bound ≡ false) xs
     → (f : Reads k i p (map bound_row xs) rest 3 4 p.classes p.weekends p.books (p.bounds + length xs) p.quotes) × (f.q.next_quote ≡ p.next_quote)
 read_bounds k [] i p rest low high h rise free =
     (record { j = i; q = p; runs = refl; low = low; high = high; classes = refl; weekends = refl; books = refl; bounds = omega arith; quotes = refl }, refl)
@@ -151,8 +151,8 @@ read_bounds k (x ∷ xs) i p rest low high h rise free =
     )
 
 read_quotes : (k : FileKind) (xs : List Quote) (i : ℕ) (p : Progress) (rest : List (List ℕ)) → 3 ≤ rank p.stage → rank p.stage ≤ 5
-    → every_assignment (QuoteStands k p.books p.weekends) xs → Rising (λ q. q.book) (λ q. q.weekend) xs
-    → every_assignment (λ q. before (place q.book q.weekend) p.next_quote ≡ false) xs
+    → AllByRecursion (QuoteStands k p.books p.weekends) xs → Rising (λ q. q.book) (λ q. q.weekend) xs
+    → AllByRecursion (λ q. before (place q.book q.weekend) p.next_quote ≡ false) xs
     → Reads k i p (map quote_row xs) rest 3 5 p.classes p.weekends p.books p.bounds (p.quotes + length xs)
 read_quotes k [] i p rest low high h rise free =
     record { j = i; q = p; runs = refl; low = low; high = high; classes = refl; weekends = refl; books = refl; bounds = refl; quotes = omega arith }
@@ -174,7 +174,7 @@ read_quotes k (x ∷ xs) i p rest low high h rise free =
       quotes = f.quotes ∙ omega arith;
     }
 
-free_from : {X : Type 0} (f g : X → ℕ) (s : Place) (xs : List X) → s ≡ place 0 0 → every_assignment (λ x. before (place (f x) (g x)) s ≡ false) xs
+free_from : {X : Type 0} (f g : X → ℕ) (s : Place) (xs : List X) → s ≡ place 0 0 → AllByRecursion (λ x. before (place (f x) (g x)) s ≡ false) xs
 free_from f g s [] e = tt
 free_from f g s (x ∷ xs) e = (ap (before (place (f x) (g x))) e ∙ first_free (f x) (g x), free_from f g s xs e)
 

@@ -6,7 +6,7 @@ use Rattle.std.proofs.lemmas.List.{length-append, length-map}
 use Rattle.std.proofs.lemmas.Bool.{cases_Bool, cond-true}
 use Rattle.std.proofs.lemmas.Bool.Decides.{nat_tests}
 use Rattle.std.specs.Simd.{first_chunks}
-use Rattle.std.specs.List.{flat_map, AllByRecursion as every_assignment}
+use Rattle.std.specs.List.{flat_map, AllByRecursion}
 use Rattle.planfile.specs.declared.progress.FileKind.{FileKind}
 use Rattle.planfile.specs.declared.progress.Progress.{Progress}
 use Rattle.planfile.specs.declared.refusal.Fault.{Fault}
@@ -26,7 +26,7 @@ after n a b c e h x =
     ⊎_elim (λ (l : a < c). let l1 : a + 1 ≤ c = omega arith in let r : n ≤ n = omega arith in let m : (a + 1) * n ≤ c * n = mul-le-mul l1 r in let s = add-mul a 1 n in let o = one-mul n in omega arith)
     (λ (y : (a ≡ c) × (b < e)). let m : a * n ≡ c * n = ap (λ z. z * n) y.0 in omega (arith, y.1)) x
 
-few : {X : Type 0} (f g : X → ℕ) (m n : ℕ) (xs : List X) (s : ℕ) → Rising f g xs → every_assignment (λ x. (f x < m) × (g x < n)) xs → every_assignment (λ x. s ≤ f x * n + g x) xs → s ≤ n * m → length xs + s ≤ n * m
+few : {X : Type 0} (f g : X → ℕ) (m n : ℕ) (xs : List X) (s : ℕ) → Rising f g xs → AllByRecursion (λ x. (f x < m) × (g x < n)) xs → AllByRecursion (λ x. s ≤ f x * n + g x) xs → s ≤ n * m → length xs + s ≤ n * m
 few f g m n [] s r i l e = omega arith
 few f g m n (x ∷ xs) s r i l e =
     let here = l.0 in
@@ -35,7 +35,7 @@ few f g m n (x ∷ xs) s r i l e =
     (let k = mul-add-lt (f x) n (g x) m i.0.0 i.0.1 in omega arith) in
     omega arith
 
-from_none : {X : Type 0} (f : X → ℕ) (xs : List X) → every_assignment (λ x. 0 ≤ f x) xs
+from_none : {X : Type 0} (f : X → ℕ) (xs : List X) → AllByRecursion (λ x. 0 ≤ f x) xs
 from_none f [] = tt
 from_none f (x ∷ xs) = (omega arith, from_none f xs)
 
@@ -64,19 +64,19 @@ module _ (k : FileKind) (d : Description) (h : Proper k d) where
       let n = few_bounds in let q = few_quotes in let c = h.few_classes in let w = h.few_weekends in let b = h.few_books in let e = count_rows in
       (omega arith, omega arith)
 
-numbered_whole : (row : ℕ → ℕ → List ℕ) → ((a b : ℕ) → length (row a b) ≡ 16) → (n : ℕ) (xs : List ℕ) → every_assignment (λ r. length r ≡ 16) (numbered row n xs)
+numbered_whole : (row : ℕ → ℕ → List ℕ) → ((a b : ℕ) → length (row a b) ≡ 16) → (n : ℕ) (xs : List ℕ) → AllByRecursion (λ r. length r ≡ 16) (numbered row n xs)
 numbered_whole row e n [] = tt
 numbered_whole row e n (x ∷ xs) = (e n x, numbered_whole row e (n + 1) xs)
 
-weekends_whole : (n l : ℕ) → every_assignment (λ r. length r ≡ 16) (weekend_rows n l)
+weekends_whole : (n l : ℕ) → AllByRecursion (λ r. length r ≡ 16) (weekend_rows n l)
 weekends_whole n zero = tt
 weekends_whole n (suc l) = (refl, weekends_whole (n + 1) l)
 
-all_of : {X : Type 0} (P : X → Type 0) → ((x : X) → P x) → (xs : List X) → every_assignment P xs
+all_of : {X : Type 0} (P : X → Type 0) → ((x : X) → P x) → (xs : List X) → AllByRecursion P xs
 all_of P f [] = tt
 all_of P f (x ∷ xs) = (f x, all_of P f xs)
 
-rows_whole : (d : Description) → every_assignment (λ r. length r ≡ 16) (rows d)
+rows_whole : (d : Description) → AllByRecursion (λ r. length r ≡ 16) (rows d)
 rows_whole d =
     let W : List ℕ → Type 0 = λ r. length r ≡ 16 in
     All-append W _ _ (numbered_whole class_row (λ a b. refl) 0 d.parents)

@@ -12,7 +12,7 @@ use Rattle.planfile.specs.declared.reader.Bound.{Bound}
 use Rattle.planfile.specs.declared.reader.Quote.{Quote}
 use Rattle.planfile.specs.declared.refusal.Refusal.{Refusal}
 use Rattle.planfile.specs.declared.refusal.Refusal.TheVariants.{Letter, Number, Padding, Bounds, Weight}
-use Rattle.planfile.specs.Fields.{nonzero, price_of, spare_bytes, strain}
+use Rattle.planfile.specs.Fields.{nonzero, price_of, spare_bytes}
 use Rattle.planfile.specs.Progress.{rank, within, before, place}
 use Rattle.planfile.specs.Records.{Step, refuse, stepped, class_line, weekend_line, book_line, bound_line, quote_line, limit_line, with_class, with_weekend, with_book, with_bound, with_quote, with_limit}
 use Rattle.planfile.specs.Description.{class_row, weekend_row, book_row, bound_row, quote_row, limit_row, low_first, price_bytes, Fitting, BoundStands, QuoteStands}

@@ -3,7 +3,7 @@ use Rattle.std.proofs.Common.{◌≡◌, ℕ, zero, suc, ◌+◌, ◌*◌, ◌<�
 use Rattle.std.proofs.lemmas.List.{length-append, length-map, length-take, length-drop, take_at, drop_at, take-append-drop, get_or-take, get_or-drop, get_or_past, get_or_at, nil_from_length}
 use Rattle.std.proofs.lemmas.Bool.{cases_lt}
 use Rattle.std.specs.Simd.{first_chunks}
-use Rattle.std.specs.List.{flat_map, AllByRecursion as every_assignment}
+use Rattle.std.specs.List.{flat_map, AllByRecursion}
 use Rattle.planfile.specs.declared.progress.FileKind.{FileKind}
 use Rattle.planfile.specs.declared.progress.Progress.{Progress}
 use Rattle.planfile.specs.declared.reader.Bound.{Bound}
@@ -52,7 +52,7 @@ bounds_back : (bs : List Bound) → map bound_of (map bound_row bs) ≡ bs
 bounds_back [] = refl
 bounds_back (b ∷ bs) = ap (λ t. b ∷ t) (bounds_back bs)
 
-quotes_back : (k : FileKind) (books weekends : ℕ) (qs : List Quote) → every_assignment (QuoteStands k books weekends) qs → map quote_of (map quote_row qs) ≡ qs
+quotes_back : (k : FileKind) (books weekends : ℕ) (qs : List Quote) → AllByRecursion (QuoteStands k books weekends) qs → map quote_of (map quote_row qs) ≡ qs
 quotes_back k books weekends [] h = refl
 quotes_back k books weekends (q ∷ qs) h =
     ap (λ p. (record { book = q.book; weekend = q.weekend; price = p }) ∷ map quote_of (map quote_row qs)) (quote_price k books weekends q h.0)
@@ -113,7 +113,7 @@ abbrev pub Whole : List ℕ → Type 0
 Whole r = (length r ≡ 16) × Bytes r
 
 -- records cut out of bytes, and put together again
-pub cut_whole : (k : ℕ) (bs : List ℕ) → length bs ≡ 16 * k → Bytes bs → every_assignment Whole (first_chunks 16 k bs)
+pub cut_whole : (k : ℕ) (bs : List ℕ) → length bs ≡ 16 * k → Bytes bs → AllByRecursion Whole (first_chunks 16 k bs)
 cut_whole zero bs e h = tt
 cut_whole (suc k) bs e h = (
   (
@@ -129,11 +129,11 @@ cut_joined zero bs e = sym (nil_from_length bs (e ∙ omega arith))
 cut_joined (suc k) bs e =
     ap (λ t. take 16 bs ++ t) (cut_joined k (drop 16 bs) (length-drop 16 bs ∙ omega arith)) ∙ take-append-drop 16 bs
 
-pub joined_length : (rs : List (List ℕ)) → every_assignment (λ r. length r ≡ 16) rs → length (flat_map (λ r. r) rs) ≡ 16 * length rs
+pub joined_length : (rs : List (List ℕ)) → AllByRecursion (λ r. length r ≡ 16) rs → length (flat_map (λ r. r) rs) ≡ 16 * length rs
 joined_length [] h = refl
 joined_length (r ∷ rs) h = length-append r (flat_map (λ r. r) rs) ∙ (let e = h.0 in let t = joined_length rs h.1 in omega arith)
 
-pub joined_cut : (rs : List (List ℕ)) → every_assignment (λ r. length r ≡ 16) rs → first_chunks 16 (length rs) (flat_map (λ r. r) rs) ≡ rs
+pub joined_cut : (rs : List (List ℕ)) → AllByRecursion (λ r. length r ≡ 16) rs → first_chunks 16 (length rs) (flat_map (λ r. r) rs) ≡ rs
 joined_cut [] h = refl
 joined_cut (r ∷ rs) h =
     ap (λ t. t ∷ first_chunks 16 (length rs) (drop 16 (r ++ flat_map (λ r. r) rs))) (take_at r (flat_map (λ r. r) rs) 16 h.0)

@@ -4,7 +4,7 @@ use Rattle.std.proofs.ByRecursion.{All-push, All-weaker}
 use Rattle.std.proofs.lemmas.List.{length_push, append-nil, map_push}
 use Rattle.std.proofs.lemmas.Bool.{eqb-true}
 use Rattle.std.proofs.lemmas.Bool.Decides.{nat_tests}
-use Rattle.std.specs.List.{AllByRecursion as every_assignment}
+use Rattle.std.specs.List.{AllByRecursion}
 use Rattle.planfile.specs.declared.progress.FileKind.{FileKind}
 use Rattle.planfile.specs.declared.progress.Progress.{Progress}
 use Rattle.planfile.specs.declared.progress.Stage.{Stage}
@@ -79,7 +79,7 @@ before_next a b c d e f h n = grind (arith, nat_tests)
 before_more : (a b e f : ℕ) → Before a b e f → Before a b e (f + 1)
 before_more a b e f h = grind arith
 
-rising_push : {X : Type 0} (f g : X → ℕ) (xs : List X) (y : X) → Rising f g xs → every_assignment (λ x. Before (f x) (g x) (f y) (g y)) xs → Rising f g (xs ++ y ∷ [])
+rising_push : {X : Type 0} (f g : X → ℕ) (xs : List X) (y : X) → Rising f g xs → AllByRecursion (λ x. Before (f x) (g x) (f y) (g y)) xs → Rising f g (xs ++ y ∷ [])
 rising_push f g [] y r h = (tt, tt)
 rising_push f g (x ∷ xs) y r h = (All-push (λ z. Before (f x) (g x) (f z) (g z)) xs y r.0 h.0, rising_push f g xs y r.1 h.1)
 
@@ -106,13 +106,13 @@ pub record Draft (k : FileKind) (p : Progress) (ps : List ℕ) (w : ℕ) (cs : L
   pub few_weekends : w ≤ 16
   pub few_books : length cs ≤ 120
   pub parents : Parents 0 ps
-  pub classes_in : every_assignment (λ c. c < length ps) cs
-  pub bounds_in : every_assignment (BoundStands w (length ps)) bs
+  pub classes_in : AllByRecursion (λ c. c < length ps) cs
+  pub bounds_in : AllByRecursion (BoundStands w (length ps)) bs
   pub bounds_rise : Rising (λ b. b.weekend) (λ b. b.class) bs
-  pub bounds_before : every_assignment (λ b. Before b.weekend b.class p.next_bound.row p.next_bound.column) bs
-  pub quotes_in : every_assignment (QuoteStands k (length cs) w) qs
+  pub bounds_before : AllByRecursion (λ b. Before b.weekend b.class p.next_bound.row p.next_bound.column) bs
+  pub quotes_in : AllByRecursion (QuoteStands k (length cs) w) qs
   pub quotes_rise : Rising (λ q. q.book) (λ q. q.weekend) qs
-  pub quotes_before : every_assignment (λ q. Before q.book q.weekend p.next_quote.row p.next_quote.column) qs
+  pub quotes_before : AllByRecursion (λ q. Before q.book q.weekend p.next_quote.row p.next_quote.column) qs
 
 -- nothing read yet
 pub draft_start : (k : FileKind) → Draft k start [] 0 [] [] []
@@ -144,8 +144,8 @@ draft_start k =
       quotes_before = tt;
     }
 
-all_none : {X : Type 0} (P : X → Type 0) (xs : List X) → xs ≡ [] → every_assignment P xs
-all_none P xs e = subst (every_assignment P) (sym e) tt
+all_none : {X : Type 0} (P : X → Type 0) (xs : List X) → xs ≡ [] → AllByRecursion P xs
+all_none P xs e = subst (AllByRecursion P) (sym e) tt
 
 -- one record more of each kind
 module _ (k : FileKind) (p : Progress) (ps : List ℕ) (w : ℕ) (cs : List ℕ) (bs : List Bound) (qs : List Quote) (d : Draft k p ps w cs bs qs) where
@@ -251,7 +251,7 @@ module _ (k : FileKind) (p : Progress) (ps : List ℕ) (w : ℕ) (cs : List ℕ)
       → before (place x.weekend x.class) p.next_bound ≡ false → 3 ≤ rank p.stage → rank p.stage ≤ 4 → Draft k (with_bound p x.weekend x.class) ps w cs (bs ++ x ∷ []) qs
   draft_bound x weekend class ordered most rises low high =
       let l = length_push bs x in
-      let earlier : every_assignment (λ b. Before b.weekend b.class x.weekend x.class) bs
+      let earlier : AllByRecursion (λ b. Before b.weekend b.class x.weekend x.class) bs
       = All-weaker _ _ (λ b h. before_next b.weekend b.class p.next_bound.row p.next_bound.column x.weekend x.class h rises) bs d.bounds_before in
       let c = d.bounds in let n = d.classes in let m = d.weekends in
       record {
@@ -286,7 +286,7 @@ module _ (k : FileKind) (p : Progress) (ps : List ℕ) (w : ℕ) (cs : List ℕ)
       → before (place x.book x.weekend) p.next_quote ≡ false → 3 ≤ rank p.stage → rank p.stage ≤ 5 → Draft k (with_quote p x.book x.weekend) ps w cs bs (qs ++ x ∷ [])
   draft_quote x stands rises low high =
       let l = length_push qs x in
-      let earlier : every_assignment (λ q. Before q.book q.weekend x.book x.weekend) qs
+      let earlier : AllByRecursion (λ q. Before q.book q.weekend x.book x.weekend) qs
       = All-weaker _ _ (λ q h. before_next q.book q.weekend p.next_quote.row p.next_quote.column x.book x.weekend h rises) qs d.quotes_before in
       let c = d.quotes in
       record {
@@ -432,7 +432,7 @@ ended k i p m q r rs ps w cs bs qs d h row fits walk =
     }
 
 pub sound : (k : FileKind) (i : ℕ) (p q : Progress) (rs : List (List ℕ)) (ps : List ℕ) (w : ℕ) (cs : List ℕ) (bs : List Bound) (qs : List Quote)
-    → Draft k p ps w cs bs qs → every_assignment Whole rs → walked k i p rs ≡ Ok q → Found k q (body_rows ps w cs bs qs ++ rs)
+    → Draft k p ps w cs bs qs → AllByRecursion Whole rs → walked k i p rs ≡ Ok q → Found k q (body_rows ps w cs bs qs ++ rs)
 unfolding walked
 sound k i p q [] ps w cs bs qs d whole h =
     let f = finished_ok i p q h in absurd (not_six p.stage d.unended f.0)

@@ -3,7 +3,7 @@
 use Rattle.std.specs.Prelude.{◌≡◌, ℕ, zero, suc, ◌+◌, ◌/◌, ◌%◌, ◌<◌, ◌≤◌, max, ◌⊎◌, List, [], ◌∷◌, ◌++◌, map, length, replicate, pos, FitsSigned, unsigned_abs}
 use Rattle.std.proofs.Common.{of_z}
 use Rattle.std.specs.Int.{w32, w64}
-use Rattle.std.specs.List.{flat_map, AllByRecursion as every_assignment}
+use Rattle.std.specs.List.{flat_map, AllByRecursion}
 use Rattle.planfile.specs.declared.fields.Price.{Price}
 use Rattle.planfile.specs.declared.progress.FileKind.{FileKind}
 use Rattle.planfile.specs.declared.progress.FileKind.TheVariants.{Money, Ranked}
@@ -74,7 +74,7 @@ Before a b c e = (a < c) ⊎ ((a ≡ c) × (b < e))
 -- by f, and among equals by g, each stands before all that follow it
 abbrev pub Rising : {X : Type 0} → (X → ℕ) → (X → ℕ) → List X → Type 0
 Rising f g [] = Unit {0}
-Rising f g (x ∷ xs) = every_assignment (λ y. Before (f x) (g x) (f y) (g y)) xs × Rising f g xs
+Rising f g (x ∷ xs) = AllByRecursion (λ y. Before (f x) (g x) (f y) (g y)) xs × Rising f g xs
 
 -- class n has a parent before it, and class 0 itself; the same of those that follow
 abbrev pub Parents : ℕ → List ℕ → Type 0
@@ -110,10 +110,10 @@ pub record Proper (k : FileKind) (d : Description) : Type 0 where
   pub few_weekends : d.weekends ≤ 16
   pub some_book : 1 ≤ length d.classes
   pub few_books : length d.classes ≤ 120
-  pub classes : every_assignment (λ c. c < length d.parents) d.classes
-  pub bounds : every_assignment (BoundStands d.weekends (length d.parents)) d.bounds
+  pub classes : AllByRecursion (λ c. c < length d.parents) d.classes
+  pub bounds : AllByRecursion (BoundStands d.weekends (length d.parents)) d.bounds
   pub bounds_rise : Rising (λ b. b.weekend) (λ b. b.class) d.bounds
-  pub quotes : every_assignment (QuoteStands k (length d.classes) d.weekends) d.quotes
+  pub quotes : AllByRecursion (QuoteStands k (length d.classes) d.weekends) d.quotes
   pub quotes_rise : Rising (λ q. q.book) (λ q. q.weekend) d.quotes
   pub limit : unsigned_abs d.limit.money ≤ 1000000000000
   pub limit_fitting : Fitting k d.limit

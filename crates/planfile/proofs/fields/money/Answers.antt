@@ -6,6 +6,6 @@ use Rattle.planfile.proofs.fields.money.Goals as goal
 pub returns : goal.returns
 unfolding money
 returns c =
-    let f : SFits w64 c.from-le-bytes.result = search rules in
+    let f : SFits w64 c.from_le_bytes.result = search rules in
     let l = c.requires in
-    to_z-of_z w64 c.from-le-bytes.result f ∙ (simp l at c.from-le-bytes.ensures)
+    to_z-of_z w64 c.from_le_bytes.result f ∙ (simp l at c.from_le_bytes.ensures)

@@ -5,4 +5,4 @@ use Rattle.planfile.proofs.fields.strain.Goals as goal
 
 pub returns : goal.returns
 unfolding strain
-returns c = let f : SFits w32 c.from-le-bytes.result = search rules in to_z-of_z w32 c.from-le-bytes.result f ∙ c.from-le-bytes.ensures
+returns c = let f : SFits w32 c.from_le_bytes.result = search rules in to_z-of_z w32 c.from_le_bytes.result f ∙ c.from_le_bytes.ensures

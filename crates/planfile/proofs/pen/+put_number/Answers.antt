@@ -7,24 +7,24 @@ use Rattle.planfile.proofs.pen.+put_number.Goals as goal
 step-length : (n : ℕ) → 10 ≤ n → n < 2 ^ 64 → length (decimal n) ≡ length (decimal (n / 10)) + 1
 step-length n h l = let e = simp length-append at (ap length (decimal_step n h l)) in omega arith
 
-pub put-byte-requires : goal.put-byte-requires
-put-byte-requires t c = let f : c.args.n < 2 ^ 64 = omega arith in omega (arith, decimal_nonempty c.args.n f)
+pub put_byte-requires : goal.put_byte-requires
+put_byte-requires t c = let f : c.args.n < 2 ^ 64 = omega arith in omega (arith, decimal_nonempty c.args.n f)
 
 pub returns-then-n-lt10 : goal.returns-then-n-lt10
 returns-then-n-lt10 t c =
-    let P : List ℕ → Type 0 = λ bs. Wrote c.args.sheet.now c.args.at bs c.put-byte.new.sheet c.put-byte.result in
-    subst P (sym (decimal_digit c.args.n (omega arith))) c.put-byte.ensures
+    let P : List ℕ → Type 0 = λ bs. Wrote c.args.sheet.now c.args.at bs c.put_byte.new.sheet c.put_byte.result in
+    subst P (sym (decimal_digit c.args.n (omega arith))) c.put_byte.ensures
 
-pub put-number-next-requires : goal.put-number-next-requires
-put-number-next-requires t c =
+pub put_number-next-requires : goal.put_number-next-requires
+put_number-next-requires t c =
     let f : c.args.n < 2 ^ 64 = omega arith in let e = step-length c.args.n (omega arith) f in (omega arith, omega arith)
 
-pub put-byte-requires-2 : goal.put-byte-requires-2
-put-byte-requires-2 t c =
+pub put_byte-requires-2 : goal.put_byte-requires-2
+put_byte-requires-2 t c =
     let f : c.args.n < 2 ^ 64 = omega arith in let e = step-length c.args.n (omega arith) f in omega arith
 
 pub returns : goal.returns
 returns t c =
     let f : c.args.n < 2 ^ 64 = omega arith in
-    let P : List ℕ → Type 0 = λ bs. Wrote c.args.sheet.now c.args.at bs c.put-byte-2.new.sheet c.put-byte-2.result in
-    subst P (sym (decimal_step c.args.n (omega arith) f)) (wrote_then c.put-number-next.ensures c.put-byte-2.ensures)
+    let P : List ℕ → Type 0 = λ bs. Wrote c.args.sheet.now c.args.at bs c.put_byte-2.new.sheet c.put_byte-2.result in
+    subst P (sym (decimal_step c.args.n (omega arith) f)) (wrote_then c.put_number-next.ensures c.put_byte-2.ensures)

@@ -2,4 +2,4 @@ use Rattle.planfile.proofs.Writes.{wrote_text}
 use Rattle.planfile.proofs.pen.put_text.Goals as goal
 
 pub returns : goal.returns
-returns c = wrote_text c.args.sheet.now c.args.text.now c.copy-from-slice.new.self c.args.at c.copy-from-slice.ensures.after c.requires
+returns c = wrote_text c.args.sheet.now c.args.text.now c.copy_from_slice.new.self c.args.at c.copy_from_slice.ensures.after c.requires

@@ -15,24 +15,24 @@ told : (k : FileKind) (bs : List ℕ) (r : Result PlanFile Fault) → ((i : ℕ)
     → record { answer : answered r ≡ read_file k bs; tells : Tells k bs (answered r) }
 told k bs r bytes e = record { answer = e; tells = tells_all k bs (answered r) (λ i. (bytes i).fits) e }
 
-pub returns-then-is-bad-size : goal.returns-then-is-bad-size
+pub returns-then-is_bad_size : goal.returns-then-is_bad_size
 unfolding read_file
-returns-then-is-bad-size c = told c.args.kind c.args.file.now (Err _) c.type-inv.file (sym (cond-true _ _ _ (sym c.if-is-bad-size.ensures)))
+returns-then-is_bad_size c = told c.args.kind c.args.file.now (Err _) c.type_inv.file (sym (cond-true _ _ _ (sym c.if-is_bad_size.ensures)))
 
 pub walk-requires : goal.walk-requires
-walk-requires c = let g = good_size c.args.file.now (sym c.if-is-bad-size.ensures) in omega (arith, c.as-chunks.ensures.front-len)
+walk-requires c = let g = good_size c.args.file.now (sym c.if-is_bad_size.ensures) in omega (arith, c.as_chunks.ensures.front_len)
 
 pub sections-requires : goal.sections-requires
-sections-requires c = walked_placed c.args.kind 0 start c.in-Ok.end c.as-chunks.result.0.now (sym c.in-Ok.ensures) ∙ zero-add _
+sections-requires c = walked_placed c.args.kind 0 start c.in-Ok.end c.as_chunks.result.0.now (sym c.in-Ok.ensures) ∙ zero-add _
 
 pub returns-in-Ok : goal.returns-in-Ok
 returns-in-Ok c =
-    told c.args.kind c.args.file.now (Ok c.sections.result) c.type-inv.file
-    (read_ok c.args.kind c.args.file.now c.as-chunks.result.0.now (sym c.if-is-bad-size.ensures) c.as-chunks.ensures.front
+    told c.args.kind c.args.file.now (Ok c.sections.result) c.type_inv.file
+    (read_ok c.args.kind c.args.file.now c.as_chunks.result.0.now (sym c.if-is_bad_size.ensures) c.as_chunks.ensures.front
     c.in-Ok.end _ (sym c.in-Ok.ensures) c.sections.ensures)
 
 pub returns-in-Err : goal.returns-in-Err
 returns-in-Err c =
-    told c.args.kind c.args.file.now (Err _) c.type-inv.file
-    (read_err c.args.kind c.args.file.now c.as-chunks.result.0.now (sym c.if-is-bad-size.ensures) c.as-chunks.ensures.front
+    told c.args.kind c.args.file.now (Err _) c.type_inv.file
+    (read_err c.args.kind c.args.file.now c.as_chunks.result.0.now (sym c.if-is_bad_size.ensures) c.as_chunks.ensures.front
     c.in-Err.fault (sym c.in-Err.ensures))

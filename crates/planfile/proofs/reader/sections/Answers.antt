@@ -9,4 +9,4 @@ returns c =
     sections_are p rs _ _ _ _ _
     (part_is rs 0 p.classes p.classes (omega arith)) (part_is rs a (a + p.books) p.books (omega arith))
     (part_is rs (a + p.books) (a + p.books + p.bounds) p.bounds (omega arith))
-    (part_is rs (a + p.books + p.bounds) (a + p.books + p.bounds + p.quotes) p.quotes (omega arith)) c.read-price-limit.ensures
+    (part_is rs (a + p.books + p.bounds) (a + p.books + p.bounds + p.quotes) p.quotes (omega arith)) c.read_price-limit.ensures

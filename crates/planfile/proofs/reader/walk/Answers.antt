@@ -7,7 +7,7 @@ step-requires c = let h = c.loop-i.invariant.1 in record { raw = search rules; b
 
 pub returns-in-Err : goal.returns-in-Err
 returns-in-Err c =
-    ap Err c.in-record.ensures
+    ap Err c.in_record.ensures
     ∙ sym (walk_stop c.args.kind c.args.rows.now c.loop-i.i c.loop-i.so_far c.loop-i.invariant.0 c.in-Err.spot c.loop-i-test.true (sym c.in-Err.ensures))
 
 pub loop-i-preserved : goal.loop-i-preserved

@@ -5,4 +5,4 @@ use Rattle.planfile.proofs.records.take_book.Goals as goal
 
 pub returns : goal.returns
 unfolding book_line
-returns c = c.book-record.ensures ∙ ap (book_record c.args.so-far (get_or c.args.raw.now 1 0) (get_or c.args.raw.now 2 0)) (take_rest c.args.raw.now 3)
+returns c = c.book_record.ensures ∙ ap (book_record c.args.so_far (get_or c.args.raw.now 1 0) (get_or c.args.raw.now 2 0)) (take_rest c.args.raw.now 3)

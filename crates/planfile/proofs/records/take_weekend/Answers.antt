@@ -5,4 +5,4 @@ use Rattle.planfile.proofs.records.take_weekend.Goals as goal
 
 pub returns : goal.returns
 unfolding weekend_line
-returns c = c.weekend-record.ensures ∙ ap (weekend_record c.args.so-far (get_or c.args.raw.now 1 0)) (take_rest c.args.raw.now 2)
+returns c = c.weekend_record.ensures ∙ ap (weekend_record c.args.so_far (get_or c.args.raw.now 1 0)) (take_rest c.args.raw.now 2)

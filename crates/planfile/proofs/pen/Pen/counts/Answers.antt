@@ -15,8 +15,8 @@ item-requires-4 c = omega arith
 pub item-requires-5 : goal.item-requires-5
 item-requires-5 c = omega arith
 
-pub end-line-requires : goal.end-line-requires
-end-line-requires c = omega arith
+pub end_line-requires : goal.end_line-requires
+end_line-requires c = omega arith
 
 pub returns : goal.returns
 unfolding counts_line
@@ -24,5 +24,5 @@ returns c =
     record {
       same = cc;
       wrote = wrote_then c.item.ensures.wrote (wrote_then c.item-2.ensures.wrote (wrote_then c.item-3.ensures.wrote
-          (wrote_then c.item-4.ensures.wrote (wrote_then c.item-5.ensures.wrote c.end-line.ensures.wrote))));
+          (wrote_then c.item-4.ensures.wrote (wrote_then c.item-5.ensures.wrote c.end_line.ensures.wrote))));
     }

@@ -6,6 +6,6 @@ pub returns-in-Start : goal.returns-in-Start
 unfolding within
 returns-in-Start c = search rules
 
-pub returns-in-default : goal.returns-in-default
+pub returns-in_default : goal.returns-in_default
 unfolding within
-returns-in-default c = search rules
+returns-in_default c = search rules

@@ -6,6 +6,6 @@ pub returns-in-Book : goal.returns-in-Book
 unfolding within
 returns-in-Book c = search rules
 
-pub returns-in-default : goal.returns-in-default
+pub returns-in_default : goal.returns-in_default
 unfolding within
-returns-in-default c = search rules
+returns-in_default c = search rules

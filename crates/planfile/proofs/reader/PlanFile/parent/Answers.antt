@@ -7,4 +7,4 @@ pub returns-then-class-self : goal.returns-then-class-self
 returns-then-class-self c = item_past second_number c.args.self.now.classes.now c.args.class c.if-class-self.true
 
 pub returns : goal.returns
-returns c = item_at second_number c.args.self.now.classes.now c.args.class [] c.second-number.result c.if-class-self.false c.second-number.ensures
+returns c = item_at second_number c.args.self.now.classes.now c.args.class [] c.second_number.result c.if-class-self.false c.second_number.ensures

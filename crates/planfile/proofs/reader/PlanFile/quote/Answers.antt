@@ -7,4 +7,4 @@ pub returns-then-at-self : goal.returns-then-at-self
 returns-then-at-self c = item_past quote_of c.args.self.now.quotes.now c.args.at c.if-at-self.true
 
 pub returns : goal.returns
-returns c = item_at quote_of c.args.self.now.quotes.now c.args.at [] c.quote-of.result c.if-at-self.false c.quote-of.ensures
+returns c = item_at quote_of c.args.self.now.quotes.now c.args.at [] c.quote_of.result c.if-at-self.false c.quote_of.ensures
