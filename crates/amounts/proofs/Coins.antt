@@ -7,7 +7,7 @@ use Rattle.amounts.specs.declared.money.Money.{Money}
 use Rattle.amounts.specs.Kind.{law_limit, AtMost, picked, smaller, larger}
 use Rattle.amounts.specs.Sums.{sum_below, weights, table_sum, weighs, copies}
 use Rattle.amounts.specs.Models.{compare_z, money, money_kind, integers}
-use Rattle.amounts.specs.Integers.{le_from_at_most_z, at_most_from_le_z}
+use Rattle.amounts.proofs.Integers.{le_from_at_most_z, at_most_from_le_z}
 use Rattle.amounts.proofs.Numbers.{sum_n_one}
 use Rattle.amounts.proofs.Sums.{sum_weight, sum_same}
 use Rattle.amounts.proofs.Tables.{rows_weight}

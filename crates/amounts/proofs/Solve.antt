@@ -67,7 +67,7 @@ abbrev load : {V : Type 0} → Kind V → List V → List Atom → ℕ
 load K ρ [] = 0
 load K ρ (a ∷ s) = K.weight (get_or ρ a.place K.none) + load K ρ s
 
--- each left side is at law-limit its right side
+-- each left side is at law_limit its right side
 abbrev pub Given : {V : Type 0} → Kind V → List V → List (Expr × Expr) → Type 0
 Given K ρ [] = Unit {0}
 Given K ρ (p ∷ ps) = AtMost K (val K ρ p.0) (val K ρ p.1) × Given K ρ ps

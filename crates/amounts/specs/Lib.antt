@@ -4,6 +4,5 @@ pub mod Sums
 pub mod Least
 pub mod Models
 pub mod Promises
-pub mod Integers
 pub mod MoneyLaws
-pub mod Ranks
+pub mod RankedLaws

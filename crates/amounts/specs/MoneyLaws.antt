@@ -1,12 +1,29 @@
--- That money keeps the laws of a kind: light money does not wrap around.
+-- Money keeps the laws of a kind: whole numbers do, and light money does not wrap around. Assumes nothing. The proof stands here, and not in proofs/, since the
+-- implementation cites it, which may name no more than specs/.
 use Rattle.std.specs.Prelude.{◌≡◌, ◌+◌, ◌≤◌, ℤ, pos, negsuc, ◌+ℤ◌, neg_ℤ, FitsSigned, unsigned_abs, refl}
+use Rattle.std.specs.declared.cmp.Ordering.TheVariants.{Less, Equal}
+use Rattle.std.specs.Ordering.{ordering_reverse}
 use Rattle.std.proofs.Common.{ap, ◌∙◌, arith}
 use Rattle.std.proofs.Math.IntN.{+ℤ_comm, +ℤ_assoc, +ℤ_idr, +ℤ_invr}
 use Rattle.std.specs.Int.{int_wrap, w64}
 use Rattle.std.proofs.lemmas.Int.{ints, int_wrap_fits}
 use Rattle.amounts.specs.Kind.{Lawful, law_limit}
 use Rattle.amounts.specs.Models.{compare_z, money, money_kind}
-use Rattle.amounts.specs.Integers.{turn_z, itself_z, same_z, trans_z, shift_z}
+
+pub turn_z : (x y : ℤ) → compare_z y x ≡ ordering_reverse (compare_z x y)
+turn_z x y = grind (arith, ints)
+
+pub itself_z : (x : ℤ) → compare_z x x ≡ Equal
+itself_z x = grind (arith, ints)
+
+pub same_z : (x y : ℤ) → compare_z x y ≡ Equal → x ≡ y
+same_z x y e = grind (arith, ints)
+
+pub trans_z : (x y z : ℤ) → compare_z x y ≡ Less → compare_z y z ≡ Less → compare_z x z ≡ Less
+trans_z x y z e f = grind (arith, ints)
+
+pub shift_z : (x y z : ℤ) → compare_z (x +ℤ z) (y +ℤ z) ≡ compare_z x y
+shift_z x y z = grind (arith, ints)
 
 fits : (z : ℤ) → unsigned_abs z ≤ law_limit → FitsSigned w64 z
 unfolding law_limit

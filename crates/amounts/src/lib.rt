@@ -43,5 +43,6 @@ pub trait Amount: Copy {
     fn weight(self) -> u64
         ensures { result ≡ kind.weight self };
 
+    // A law, which each implementation proves: it is one since it stands below the last function.
     ghost lawful: { Lawful kind };
 }

@@ -1,6 +1,6 @@
 // Two kinds ranked: what the first part says comes before anything that the second says.
 ghost use Rattle.amounts.specs.Models.{ranked_kind};
-ghost use Rattle.amounts.specs.Ranks.{ranked_lawful};
+ghost use Rattle.amounts.specs.RankedLaws.{ranked_lawful};
 
 use super::Amount;
 use std::cmp::Ordering;

@@ -6,7 +6,7 @@ use Rattle.amounts.specs.Sums.{copies}
 use Rattle.amounts.proofs.Order.{at_most_trans, plus_at_most_right, plus_minus, minus_minus, minus_none}
 use Rattle.amounts.proofs.Copies.{copies_weight}
 use Rattle.amounts.specs.MoneyLaws.{money_lawful}
-use Rattle.amounts.specs.Ranks.{ranked_lawful}
+use Rattle.amounts.specs.RankedLaws.{ranked_lawful}
 use Rattle.plans.specs.Soft.{broken, fine, rise, fall, soft_kind, violation, Convex}
 use Rattle.plans.specs.Flows.{SoftConvex}
 

@@ -7,7 +7,7 @@ use Rattle.amounts.specs.Least.{or_none}
 use Rattle.amounts.specs.Models.{integers}
 use Rattle.amounts.proofs.Order.{less_not_back}
 use Rattle.amounts.proofs.Sums.{sum_none}
-use Rattle.amounts.specs.Integers.{integers_lawful}
+use Rattle.amounts.proofs.Integers.{integers_lawful}
 use Rattle.plans.specs.Problem.{Problem, Plan, member, count, is_open, total, Within}
 use Rattle.plans.specs.Sheets.{goes, stranded, floor, accepts, entries, counted, heads}
 use Rattle.plans.specs.Theorems.{Sound, Light, TollCheckSound, HeadCheckSound}

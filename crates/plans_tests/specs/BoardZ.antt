@@ -9,7 +9,7 @@ use Rattle.plans.specs.Trials.{Answer, best, no_plan, dear, sends, is_within, ke
 use Rattle.plans_tests.specs.Six.{six_quote}
 
 -- class 1 is under class 0; books 0 and 1 are in class 0, book 2 in class 1. The members at (weekend, class) are
--- from least-at-00 to most-at-00 at (0, 0), 1 to 2 at (1, 0), 0 to 3 at (0, 1), and 1 at (1, 1)
+-- from least_at_00 to most_at_00 at (0, 0), 1 to 2 at (1, 0), 0 to 3 at (0, 1), and 1 at (1, 1)
 abbrev pub board_z : List ℕ → ℕ → ℕ → ℕ → Problem Money
 board_z coins least_at_00 most_at_00 limit = record {
   books = 3;

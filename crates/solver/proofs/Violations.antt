@@ -11,7 +11,7 @@ use Rattle.amounts.proofs.Sums.{sum_same, sum_none}
 use Rattle.amounts.proofs.Copies.{sum_copies, copies_none}
 use Rattle.amounts.specs.MoneyLaws.{money_lawful}
 use Rattle.amounts.proofs.Coins.{money_copies, money_at_most}
-use Rattle.amounts.specs.Ranks.{ranked_sum, ranked_copies, first_at_most, second_at_most}
+use Rattle.amounts.proofs.Ranks.{ranked_sum, ranked_copies, first_at_most, second_at_most}
 use Rattle.plans.specs.Problem.{Problem, Plan, member, count, total}
 use Rattle.plans.specs.Theorems.{Sound}
 use Rattle.solver.specs.Soft.{broken, fine, soft_kind, violation, behind, softened, violations, score}

@@ -1,4 +1,4 @@
-use Rattle.amounts.specs.Ranks.{ranked_lawful}
+use Rattle.amounts.specs.RankedLaws.{ranked_lawful}
 use Rattle.amounts.proofs.promises.ranked_stands.Goals as goal
 
 pub returns : goal.returns

@@ -1,5 +1,5 @@
--- The whole numbers: their comparison, and their laws as a kind of amounts. Assumes nothing.
-use Rattle.std.specs.Prelude.{◌≡◌, ℤ, ◌+ℤ◌, ◌≤ℤ◌, ◌<ℤ◌, refl}
+-- The whole numbers as a kind of amounts. Assumes nothing.
+use Rattle.std.specs.Prelude.{◌≡◌, ℤ, ◌≤ℤ◌, ◌<ℤ◌, refl}
 use Rattle.std.specs.declared.cmp.Ordering.TheVariants.{Less, Equal, Greater}
 use Rattle.std.specs.declared.cmp.Ordering.{Ordering}
 use Rattle.std.proofs.Common.{ap, ◌∙◌, inl, inr, arith}
@@ -8,27 +8,13 @@ use Rattle.std.specs.Ordering.{ordering_reverse}
 use Rattle.std.proofs.lemmas.Int.{ints}
 use Rattle.amounts.specs.Kind.{Lawful, AtMost}
 use Rattle.amounts.specs.Models.{compare_z, integers}
+use Rattle.amounts.specs.MoneyLaws.{turn_z, itself_z, same_z, trans_z, shift_z}
 
 pub less_from_compare : (x y : ℤ) → compare_z x y ≡ Less → x <ℤ y
 less_from_compare x y e = grind (arith, ints)
 
 pub compare_from_less : (x y : ℤ) → x <ℤ y → compare_z x y ≡ Less
 compare_from_less x y e = grind (arith, ints)
-
-pub turn_z : (x y : ℤ) → compare_z y x ≡ ordering_reverse (compare_z x y)
-turn_z x y = grind (arith, ints)
-
-pub itself_z : (x : ℤ) → compare_z x x ≡ Equal
-itself_z x = grind (arith, ints)
-
-pub same_z : (x y : ℤ) → compare_z x y ≡ Equal → x ≡ y
-same_z x y e = grind (arith, ints)
-
-pub trans_z : (x y z : ℤ) → compare_z x y ≡ Less → compare_z y z ≡ Less → compare_z x z ≡ Less
-trans_z x y z e f = grind (arith, ints)
-
-pub shift_z : (x y z : ℤ) → compare_z (x +ℤ z) (y +ℤ z) ≡ compare_z x y
-shift_z x y z = grind (arith, ints)
 
 pub integers_lawful : Lawful integers
 integers_lawful = record {
