@@ -1,4 +1,4 @@
-// The solver for callers in C and Rust: the oracle compares it with other programs.
+// The solver for callers in C.
 #![tactic(auto)]
 
 use amounts::Money;
