@@ -1,14 +1,23 @@
 // Money, counted in the smallest coin.
-ghost use Rattle.amounts.specs.Models.{money_kind};
+ghost use Rattle.std.specs.Prelude.{◌≡◌};
+ghost use Rattle.amounts.specs.Models.{money, money_kind};
 ghost use Rattle.amounts.specs.MoneyLaws.{money_lawful};
 
 use super::Amount;
 use std::cmp::Ordering;
 
-#[derive(Clone, Copy)]
+#[derive(Clone, Copy, PartialEq, Eq, PartialOrd, Ord, Debug)]
 pub struct Money {
     // How many of the smallest coin; below zero where it is owed.
     pub value: i64,
+}
+
+impl From<i64> for Money {
+    ghost from_gives = { λ value m. m ≡ money value };
+
+    fn from(value: i64) -> Money {
+        Money { value }
+    }
 }
 
 // Sums and opposites wrap around at 64 bits.
@@ -34,13 +43,7 @@ impl Amount for Money {
     }
 
     fn compare(self, other: Money) -> Ordering {
-        if self.value < other.value {
-            Ordering::Less
-        } else if other.value < self.value {
-            Ordering::Greater
-        } else {
-            Ordering::Equal
-        }
+        self.cmp(&other)
     }
 
     fn weight(self) -> u64 {

@@ -5,7 +5,7 @@ ghost use Rattle.amounts.specs.RankedLaws.{ranked_lawful};
 use super::Amount;
 use std::cmp::Ordering;
 
-#[derive(Clone, Copy)]
+#[derive(Clone, Copy, PartialEq, Eq, Debug)]
 pub struct Ranked<P, Q> {
     pub first: P,
     pub second: Q,
@@ -39,10 +39,9 @@ impl<P: Amount, Q: Amount> Amount for Ranked<P, Q> {
     }
 
     fn compare(self, other: Ranked<P, Q>) -> Ordering {
-        match self.first.compare(other.first) {
-            Ordering::Equal => self.second.compare(other.second),
-            unequal => unequal,
-        }
+        self.first
+            .compare(other.first)
+            .then_with(|| self.second.compare(other.second))
     }
 
     // The weight of the heavier part.

@@ -7,15 +7,15 @@ type Nested = Ranked<Pair, Money>;
 
 fn pair(first: i64, second: i64) -> Pair {
     Ranked {
-        first: Money { value: first },
-        second: Money { value: second },
+        first: Money::from(first),
+        second: Money::from(second),
     }
 }
 
 fn nested(first: i64, second: i64, third: i64) -> Nested {
     Ranked {
         first: pair(first, second),
-        second: Money { value: third },
+        second: Money::from(third),
     }
 }
 
