@@ -1,10 +1,10 @@
 -- What a span quotes is light.
-use Rattle.std.proofs.Common.{◌≡◌, ℕ, ◌-◌, ◌*◌, ◌<◌, ◌≤◌, Bool, true, false, cond, List, length, get_or, IfSome, Some, None, Option, sym, refl, ap, ◌∙◌, subst, arith}
+use Rattle.std.proofs.Common.{◌&&◌, nat_lt, ◌≡◌, ℕ, ◌-◌, ◌*◌, ◌<◌, ◌≤◌, Bool, true, false, cond, List, length, get_or, IfSome, Some, None, Option, sym, refl, ap, ◌∙◌, subst, arith}
 use Rattle.amounts.specs.Kind.{Kind, Lawful, law_limit}
 use Rattle.amounts.specs.Sums.{copies}
 use Rattle.amounts.proofs.Copies.{copies_weight}
 use Rattle.std.proofs.lemmas.Option.{slice_get-get_or, slice_get_past}
-use Rattle.std.proofs.lemmas.Bool.{and_parts, leb-true, ltb-true, lt-ltb, cond-true, cond-false, and_from}
+use Rattle.std.proofs.lemmas.Bool.{and_parts, leb-true, ltb-true, cond-true, cond-false}
 use Rattle.std.specs.List.{slice_get}
 use Rattle.sources.specs.declared.span_tariff.Span.{Span}
 use Rattle.sources.specs.Spans.{span_opens, span_quote, span_pair, quote_of}
@@ -42,17 +42,14 @@ module _ {X : Type 0} (K : Kind X) (L : Lawful K) (m w : ℕ) (s : Span X) (few 
   quote_light = light_by (span_opens s.first s.last m (K.weight s.base) (K.weight s.step) w) refl
 
 -- what the code answers, by what opens
-module _ {X : Type 0} (K : Kind X) (m w wb ws : ℕ) (s : Span X) (eb : wb ≡ K.weight s.base) (es : ws ≡ K.weight s.step) where
-  opens_is : span_opens s.first s.last m wb ws w ≡ span_opens s.first s.last m (K.weight s.base) (K.weight s.step) w
-  opens_is = ap (λ x. span_opens s.first s.last m x ws w) eb ∙ ap (λ x. span_opens s.first s.last m (K.weight s.base) x w) es
-
-  pub quote_none : span_opens s.first s.last m wb ws w ≡ false → None ≡ span_quote K m w s
+module _ {X : Type 0} (K : Kind X) (m w : ℕ) (s : Span X) where
+  pub quote_none : span_opens s.first s.last m (K.weight s.base) (K.weight s.step) w ≡ false → None ≡ span_quote K m w s
   unfolding span_quote
-  quote_none e = sym (cond-false _ _ _ (sym opens_is ∙ e))
+  quote_none e = sym (cond-false _ _ _ e)
 
-  pub quote_some : (t r : X) → span_opens s.first s.last m wb ws w ≡ true → t ≡ copies K (w - s.first) s.step → r ≡ K.plus s.base t → Some r ≡ span_quote K m w s
+  pub quote_some : (t r : X) → span_opens s.first s.last m (K.weight s.base) (K.weight s.step) w ≡ true → t ≡ copies K (w - s.first) s.step → r ≡ K.plus s.base t → Some r ≡ span_quote K m w s
   unfolding span_quote
-  quote_some t r e et er = ap Some (er ∙ ap (K.plus s.base) et) ∙ sym (cond-true _ _ _ (sym opens_is ∙ e))
+  quote_some t r e et er = ap Some (er ∙ ap (K.plus s.base) et) ∙ sym (cond-true _ _ _ e)
 
 module _ {X : Type 0} (K : Kind X) (spans : List (Span X)) (n m b w : ℕ) where
   pub span_missing : length spans ≤ b → span_pair K spans n m b w ≡ None
@@ -63,15 +60,17 @@ module _ {X : Type 0} (K : Kind X) (spans : List (Span X)) (n m b w : ℕ) where
       same_cond true x = refl
       same_cond false x = refl
 
-  pub span_at : b < n → w < m → (s : Span X) → slice_get spans b ≡ Some s → span_quote K m w s ≡ span_pair K spans n m b w
+  pub span_closed : (nat_lt b n && nat_lt w m) ≡ false → None ≡ span_pair K spans n m b w
   unfolding span_pair
-  span_at hb hw s read = sym (cond-true _ _ _ (and_from _ _ (lt-ltb b n hb) (lt-ltb w m hw)) ∙ ap (quote_of K m w) read)
+  span_closed e = sym (cond-false _ _ _ e)
 
--- the code's answer, where a book has a span
-pub span_answer : {X : Type 0} (K : Kind X) (L : Lawful K) (spans : List (Span X)) (n m m' b w : ℕ) (s : Span X) (r : Option X) → m' ≡ m → m ≤ 16 → b < n → w < m
-    → b < length spans → s ≡ get_or spans b s → r ≡ span_quote K m' w s → (r ≡ span_pair K spans n m b w) × IfSome r (λ x. K.weight x ≤ 1000000000)
-span_answer K L spans n m m' b w s r em few hb hw within read e =
-    let f : r ≡ span_quote K m w s = e ∙ ap (λ x. span_quote K x w s) em in (
-      f ∙ span_at K spans n m b w hb hw s (slice_get-get_or spans b s within ∙ ap Some (sym read)),
-      subst (λ x. IfSome x (λ y. K.weight y ≤ 1000000000)) (sym f) (quote_light K L m w s few),
-    )
+  pub span_at : (nat_lt b n && nat_lt w m) ≡ true → (s : Span X) → slice_get spans b ≡ Some s → span_quote K m w s ≡ span_pair K spans n m b w
+  unfolding span_pair
+  span_at within s read = sym (cond-true _ _ _ within ∙ ap (quote_of K m w) read)
+
+-- the code's answer, where a book has a span; the weekends are reckoned as m', which is m
+pub span_answer : {X : Type 0} (K : Kind X) (spans : List (Span X)) (n m m' b w : ℕ) (s : Span X) (r : Option X) → m' ≡ m → r ≡ span_quote K m' w s → (nat_lt b n && nat_lt w m) ≡ true → b < length spans → s ≡ get_or spans b s → r ≡ span_pair K spans n m b w
+span_answer K spans n m m' b w s r em e inside within read = e ∙ ap (λ x. span_quote K x w s) em ∙ span_at K spans n m b w inside s (slice_get-get_or spans b s within ∙ ap Some (sym read))
+
+pub span_light : {X : Type 0} {K : Kind X} → Lawful K → (m w : ℕ) (s : Span X) (r : Option X) → m ≤ 16 → r ≡ span_quote K m w s → IfSome r (λ x. K.weight x ≤ 1000000000)
+span_light {K = K} L m w s r few e = subst (λ x. IfSome x (λ y. K.weight y ≤ 1000000000)) (sym e) (quote_light K L m w s few)

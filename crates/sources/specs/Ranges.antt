@@ -1,17 +1,14 @@
 -- The sources of this crate keep their numbers, and nothing of them is open outside.
 use Rattle.std.specs.Prelude.{◌≡◌, ℕ, ◌≤◌, Bool, true, false, cond, ◌&&◌, ◌⊎◌, List, None, Option, refl}
 use Rattle.std.proofs.Common.{⊎_elim, arith}
-use borrow.Author.Tests.{le-ltb}
+use Rattle.std.proofs.Math.Bool.{and-false}
+use Rattle.std.proofs.lemmas.Bool.{le-ltb}
 use Rattle.amounts.specs.Kind.{Kind}
 use Rattle.sources.specs.declared.span_tariff.Span.{Span}
 use Rattle.sources.specs.Meaning.{InRange}
 use Rattle.sources.specs.Tables.{clamped, table_pair}
 use Rattle.sources.specs.Spans.{span_pair}
 use Rattle.sources.specs.Strikes.{struck_out}
-
-pub and_false : (x : Bool) → (x && false) ≡ false
-and_false true = refl
-and_false false = refl
 
 module _ {X : Type 0} (weight : X → ℕ) (quotes : List X) (words : List ℕ) (n m b w : ℕ) where
   past_books : n ≤ b → table_pair weight quotes words n m b w ≡ None
@@ -20,7 +17,7 @@ module _ {X : Type 0} (weight : X → ℕ) (quotes : List X) (words : List ℕ) 
 
   past_weekends : m ≤ w → table_pair weight quotes words n m b w ≡ None
   unfolding table_pair
-  past_weekends h = let e = le-ltb w m h in simp (e, and_false)
+  past_weekends h = let e = le-ltb w m h in simp (e, and-false)
 
   pub table_outside : (n ≤ b) ⊎ (m ≤ w) → table_pair weight quotes words n m b w ≡ None
   table_outside = ⊎_elim past_books past_weekends
@@ -42,7 +39,7 @@ module _ {X : Type 0} (K : Kind X) (spans : List (Span X)) (n m b w : ℕ) where
 
   before_weekends : m ≤ w → span_pair K spans n m b w ≡ None
   unfolding span_pair
-  before_weekends h = let e = le-ltb w m h in simp (e, and_false)
+  before_weekends h = let e = le-ltb w m h in simp (e, and-false)
 
   pub span_outside : (n ≤ b) ⊎ (m ≤ w) → span_pair K spans n m b w ≡ None
   span_outside = ⊎_elim before_books before_weekends

@@ -15,7 +15,11 @@ abbrev pub light_only : {X : Type 0} → (X → ℕ) → Option X → Option X
 light_only weight None = None
 light_only weight (Some x) = cond (nat_le (weight x) 1000000000) (Some x) None
 
+-- the pair (b, w) is one of n books and m weekends, and the book's word opens the weekend
+abbrev pub word_opens : List ℕ → ℕ → ℕ → ℕ → ℕ → Bool
+word_opens words n m b w = nat_lt b n && nat_lt w m && bit_at (slice_index words b) w
+
 -- the pair (b, w) of a table of n books and m weekends
 unfoldable pub table_pair : {X : Type 0} → (X → ℕ) → List X → List ℕ → ℕ → ℕ → ℕ → ℕ → Option X
 table_pair weight quotes words n m b w =
-    cond (nat_lt b n && nat_lt w m && bit_at (slice_index words b) w) (light_only weight (slice_get quotes (b * m + w))) None
+    cond (word_opens words n m b w) (light_only weight (slice_get quotes (b * m + w))) None

@@ -4,7 +4,7 @@ ghost use Rattle.sources.specs.Tables.{clamped};
 ghost use Rattle.sources.specs.Spans.{span_opens, span_quote, span_pair};
 ghost use Rattle.sources.specs.Ranges.{span_ranges};
 
-use crate::counting::{count_books, count_weekends};
+use crate::extent::Extent;
 use crate::meaning::Source;
 use amounts::{Amount, times};
 
@@ -22,57 +22,44 @@ pub struct Span<X> {
     pub step: X,
 }
 
-// Whether a span opens a weekend, where its base and step have these weights. One that runs backward, ends behind the
-// weekends, or is too heavy opens none.
-fn opens(first: usize, last: usize, weekends: usize, base: u64, step: u64, weekend: usize) -> bool
-    ensures { result ≡ span_opens first last weekends base step weekend }
-{
-    first <= last
-        && last < weekends
-        && base <= HEAVIEST_BASE
-        && step <= HEAVIEST_STEP
-        && first <= weekend
-        && weekend <= last
-}
-
 impl<X: Amount> Span<X> {
+    // Whether it opens a weekend, of so many. One that runs backward, ends behind the weekends, or is too heavy opens none.
+    fn opens(self, weekends: usize, weekend: usize) -> bool
+        ensures { result ≡ span_opens self.first self.last weekends (X.Amount.kind.weight self.base) (X.Amount.kind.weight self.step) weekend }
+    {
+        self.first <= self.last
+            && self.last < weekends
+            && self.base.weight() <= HEAVIEST_BASE
+            && self.step.weight() <= HEAVIEST_STEP
+            && self.first <= weekend
+            && weekend <= self.last
+    }
+
     fn quote(self, weekends: usize, weekend: usize) -> Option<X>
         ensures { result ≡ span_quote X.Amount.kind weekends weekend self }
     {
-        let first = self.first;
-        let base = self.base;
-        let step = self.step;
-        if !opens(
-            first,
-            self.last,
-            weekends,
-            base.weight(),
-            step.weight(),
-            weekend,
-        ) {
+        if !self.opens(weekends, weekend) {
             return None;
         }
-        Some(base.sum(times(weekend - first, step)))
+        Some(self.base.sum(times(weekend - self.first, self.step)))
     }
 }
 
 // One span for each book; a missing book is shut. A count outside its range is taken as the nearer end.
 #[derive(Clone, Copy)]
 pub struct SpanTariff<'a, X> {
-    books: usize,
-    weekends: usize,
+    extent: Extent,
     spans: &'a [Span<X>],
 }
 
 impl<'a, X: Amount> SpanTariff<'a, X> {
     pub fn new(books: usize, weekends: usize, spans: &'a [Span<X>]) -> Self
-        ensures books { result.books ≡ books }
-        ensures weekends { result.weekends ≡ weekends }
+        ensures books { result.extent.books ≡ books }
+        ensures weekends { result.extent.weekends ≡ weekends }
         ensures spans { result.spans.now ≡ spans.now }
     {
         SpanTariff {
-            books,
-            weekends,
+            extent: Extent { books, weekends },
             spans,
         }
     }
@@ -81,31 +68,27 @@ impl<'a, X: Amount> SpanTariff<'a, X> {
 impl<'a, X: Amount> Source for SpanTariff<'a, X> {
     type Quote = X;
 
-    ghost count = { λ s. clamped 120 s.books };
+    ghost count = { λ s. clamped 120 s.extent.books };
 
-    ghost weeks = { λ s. clamped 16 s.weekends };
+    ghost weeks = { λ s. clamped 16 s.extent.weekends };
 
-    ghost table = { λ s. span_pair X.Amount.kind s.spans.now (clamped 120 s.books) (clamped 16 s.weekends) };
+    ghost table = { λ s. span_pair X.Amount.kind s.spans.now (clamped 120 s.extent.books) (clamped 16 s.extent.weekends) };
 
-    ghost ranges = { span_ranges X.Amount.kind (λ s. s.books) (λ s. s.weekends) (λ s. s.spans.now) };
+    ghost ranges = { span_ranges X.Amount.kind (λ s. s.extent.books) (λ s. s.extent.weekends) (λ s. s.spans.now) };
 
     fn books(&self) -> usize {
-        count_books(self.books)
+        self.extent.books()
     }
 
     fn weekends(&self) -> usize {
-        count_weekends(self.weekends)
+        self.extent.weekends()
     }
 
     fn quote(&self, book: usize, weekend: usize) -> Option<X> {
-        let books = count_books(self.books);
-        let weekends = count_weekends(self.weekends);
-        if book >= books || weekend >= weekends {
+        if !self.extent.has(book, weekend) {
             return None;
         }
-        match self.spans.get(book) {
-            Some(span) => (*span).quote(weekends, weekend),
-            None => None,
-        }
+        let span = *self.spans.get(book)?;
+        span.quote(self.extent.weekends(), weekend)
     }
 }

@@ -2,6 +2,8 @@
 ghost use Rattle.std.specs.Prelude.{◌≡◌, ◌<◌, true, false, replicate};
 ghost use Rattle.sources.specs.Strikes.{struck_at, with_pair, without_pair, OnlyAt};
 
+use crate::words::has_weekend;
+
 // One word for each book; bit w of it says that weekend w is struck.
 #[derive(Clone, Copy)]
 pub struct StruckPairs {
@@ -19,11 +21,9 @@ impl StruckPairs {
     pub fn has(&self, book: usize, weekend: usize) -> bool
         ensures { result ≡ struck_at self.now.words book weekend }
     {
-        if book >= 120 {
-            return false;
-        }
-        let word = self.words[book];
-        weekend < 16 && (word >> weekend) % 2 == 1
+        self.words
+            .get(book)
+            .is_some_and(|word| has_weekend(*word, weekend))
     }
 
     // Strikes a pair; one that has no place here changes nothing.
@@ -32,7 +32,7 @@ impl StruckPairs {
         ensures exact { book < 120 → weekend < 16 → OnlyAt self.old.words self.new.words book weekend true }
     {
         if book < 120 && weekend < 16 {
-            self.words[book] = self.words[book] | (1 << weekend);
+            self.words[book] |= 1 << weekend;
         }
     }
 

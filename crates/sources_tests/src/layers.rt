@@ -5,10 +5,10 @@ use std::test::Fail;
 #[test]
 fn a_strike_shuts_one_pair_and_can_be_lifted(rt: HostRuntime) {
     let quotes = [
-        Money { value: 1 },
-        Money { value: 2 },
-        Money { value: 3 },
-        Money { value: 4 },
+        Money::from(1),
+        Money::from(2),
+        Money::from(3),
+        Money::from(4),
     ];
     let words = [0b11, 0b11];
     let mut layer = StrikeLayer::over(QuoteTable::new(2, 2, &quotes, &words));
@@ -27,7 +27,7 @@ fn a_strike_shuts_one_pair_and_can_be_lifted(rt: HostRuntime) {
 
 #[test]
 fn a_strike_without_a_place_changes_nothing(rt: HostRuntime) {
-    let quotes = [Money { value: 1 }];
+    let quotes = [Money::from(1)];
     let words = [0b1];
     let mut layer = StrikeLayer::over(QuoteTable::new(1, 1, &quotes, &words));
     layer.strike(120, 0);
@@ -45,8 +45,8 @@ fn a_pile_of_layers_is_a_source(rt: HostRuntime) {
     let spans = [Span {
         first: 0,
         last: 2,
-        base: Money { value: 5 },
-        step: Money { value: 1 },
+        base: Money::from(5),
+        step: Money::from(1),
     }];
     let mut low = StrikeLayer::over(SpanTariff::new(1, 3, &spans));
     low.strike(0, 1);
@@ -63,15 +63,13 @@ fn a_pile_of_layers_is_a_source(rt: HostRuntime) {
 #[test]
 fn a_pile_of_ranked_quotes(rt: HostRuntime) -> Result<(), Fail> {
     let quotes = [Ranked {
-        first: Money { value: 1 },
-        second: Money { value: -2 },
+        first: Money::from(1),
+        second: Money::from(-2),
     }];
     let words = [0b1];
     let table: QuoteTable<Ranked<Money, Money>> = QuoteTable::new(1, 1, &quotes, &words);
     let pile = StrikeLayer::over(StrikeLayer::over(table));
-    let Some(amount) = pile.quote(0, 0) else {
-        return Err(Fail::new("the pair should be open"));
-    };
+    let amount = pile.quote(0, 0).ok_or("the pair should be open")?;
     assert_eq!(rt; amount.first.value, 1);
     assert_eq!(rt; amount.second.value, -2);
     Ok(())

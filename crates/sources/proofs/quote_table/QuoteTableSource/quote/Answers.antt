@@ -1,39 +1,18 @@
-use Rattle.std.proofs.Common.{◌≡◌, ◌+◌, ◌*◌, sym, inl, inr, arith}
-use Rattle.std.proofs.lemmas.Option.{slice_get-get_or}
-use Rattle.sources.specs.Tables.{clamped}
-use Rattle.sources.specs.Ranges.{table_outside}
-use Rattle.sources.proofs.Pairs.{pair_shut, pair_past, pair_light, pair_heavy, pair_wordless}
+use Rattle.std.proofs.Common.{◌+◌, ◌*◌, None, sym, ◌∙◌}
+use Rattle.std.proofs.lemmas.Bool.{ltb-false}
+use Rattle.std.proofs.lemmas.Option.{slice_get_past}
+use Rattle.sources.proofs.Pairs.{pair_closed, pair_open, pair_read}
 use Rattle.sources.proofs.quote_table.QuoteTableSource.quote.Goals as goal
-use Rattle.sources.proofs.quote_table.QuoteTableSource.quote.Goals.{then-book-books-via-then-book-books, then-book-books-via-else-book-books+then-weekend-weekends, then-book-books-via-else-book-books+else-weekend-weekends+then-book-self}
 
-pub returns-then-book-books : goal.returns-then-book-books
-returns-then-book-books g c =
-    elim c.then-book-books.branch [
-      | then-book-books-via-then-book-books w ↦ record { pinned = sym (table_outside _ _ _ _ _ _ _ (inl (omega (arith, w.if-book-books.true)))); light = tt }
-      | then-book-books-via-else-book-books+then-weekend-weekends w ↦ record { pinned = sym (table_outside _ _ _ _ _ _ _ (inr (omega (arith, w.if-weekend-weekends.true)))); light = tt }
-      | then-book-books-via-else-book-books+else-weekend-weekends+then-book-self w ↦ record { pinned = sym (pair_wordless _ _ _ _ _ _ _ w.if-book-self.true); light = tt }
-    ]
+pub returns-then-not-opens-clause-pinned : goal.returns-then-not-opens-clause-pinned
+returns-then-not-opens-clause-pinned g c = pair_closed _ _ _ _ _ _ _ (sym c.if-not-opens.ensures)
 
-pub returns-then-self-book-ne1 : goal.returns-then-self-book-ne1
-returns-then-self-book-ne1 g c = record { pinned = sym (pair_shut _ _ _ _ _ _ _ c.if-self-book-ne1.true); light = tt }
+pub returns-in_err-amount-clause-pinned : goal.returns-in_err-amount-clause-pinned
+returns-in_err-amount-clause-pinned g c =
+    let past = slice_get_past c.args.self.now.quotes.now (c.args.book * c.weekends.result + c.args.weekend) (ltb-false _ _ (sym c.in_err-amount.ensures.lookup.0)) in
+    c.from_residual.ensures ∙ pair_open _ _ _ _ _ _ _ c.weekends.result None c.weekends.ensures (sym c.if-not-opens.ensures) past
 
-pub returns-then-place-self : goal.returns-then-place-self
-returns-then-place-self g c =
-    let e : c.count_weekends-weekends.result ≡ clamped 16 c.args.self.now.weekends = omega arith in
-    record { pinned = sym (pair_past _ _ _ _ _ _ _ (rw e at c.if-place-self.true)); light = tt }
-
-pub returns-then-weight-le-HEAVIEST : goal.returns-then-weight-le-HEAVIEST
-returns-then-weight-le-HEAVIEST g c =
-    let found = slice_get-get_or c.args.self.now.quotes.now (c.args.book * c.count_weekends-weekends.result + c.args.weekend) c.index-self-place.result (omega arith) in
-    record {
-      pinned = pair_light _ _ _ _ _ _ _ c.count_weekends-weekends.result (omega arith) (omega arith) (omega arith) c.if-self-book-ne1.false _ found (omega arith);
-      light = omega arith;
-    }
-
-pub returns-else-weight-le-HEAVIEST : goal.returns-else-weight-le-HEAVIEST
-returns-else-weight-le-HEAVIEST g c =
-    let found = slice_get-get_or c.args.self.now.quotes.now (c.args.book * c.count_weekends-weekends.result + c.args.weekend) c.index-self-place.result (omega arith) in
-    record {
-      pinned = pair_heavy _ _ _ _ _ _ _ c.count_weekends-weekends.result (omega arith) (omega arith) (omega arith) c.if-self-book-ne1.false _ found (omega arith);
-      light = tt;
-    }
+pub returns-clause-pinned : goal.returns-clause-pinned
+returns-clause-pinned g c =
+    let found = c.in_ok-amount.ensures.lookup in
+    c.then_some.ensures ∙ pair_read _ _ _ _ _ _ _ c.weekends.result c.weight.result c.in_ok-amount.field-0.now c.weekends.ensures (sym c.if-not-opens.ensures) found.3.0 found.1 c.weight.ensures

@@ -1,25 +1,18 @@
-use Rattle.std.proofs.Common.{◌<◌, ◌≤◌, sym, inl, inr, ⊎_elim, arith}
+use Rattle.std.proofs.Common.{sym, ◌∙◌, arith}
 use Rattle.std.proofs.lemmas.Bool.{ltb-false}
-use Rattle.sources.specs.Tables.{clamped}
-use Rattle.sources.specs.Ranges.{span_outside}
-use Rattle.sources.proofs.Tariffs.{span_missing, span_answer}
+use Rattle.sources.proofs.Tariffs.{span_closed, span_missing, span_answer, span_light}
 use Rattle.sources.proofs.span_tariff.SpanTariffSource.quote.Goals as goal
 
-pub returns-then-book-books : goal.returns-then-book-books
-returns-then-book-books g c =
-    let n = clamped 120 c.args.self.now.books in let m = clamped 16 c.args.self.now.weekends in
-    record {
-      pinned = sym (span_outside g.X.Amount.kind c.args.self.now.spans.now n m c.args.book c.args.weekend
-          (⊎_elim (λ (h : c.count_books-books.result ≤ c.args.book). inl (omega arith)) (λ (h : (c.args.book < c.count_books-books.result) × (c.count_weekends-weekends.result ≤ c.args.weekend)). inr (omega (arith, h.1))) c.then-book-books.either));
-      light = tt;
-    }
+pub returns-then-not-has-clause-pinned : goal.returns-then-not-has-clause-pinned
+returns-then-not-has-clause-pinned g c = span_closed _ _ _ _ _ _ (sym c.if-not-has.ensures)
 
-pub returns-in-Some : goal.returns-in-Some
-returns-in-Some g c =
-    let found = c.in-Some.ensures.lookup in
-    let a = span_answer g.X.Amount.kind g.met.X.Amount.lawful c.args.self.now.spans.now (clamped 120 c.args.self.now.books) (clamped 16 c.args.self.now.weekends)
-    c.count_weekends-weekends.result c.args.book c.args.weekend c.in-Some.span.now c.quote.result (omega arith) (omega arith) (omega arith) (omega arith) found.3.0 found.1 c.quote.ensures in
-    record { pinned = a.0; light = a.1 }
+pub returns-in_err-span-clause-pinned : goal.returns-in_err-span-clause-pinned
+returns-in_err-span-clause-pinned g c = c.from_residual.ensures ∙ sym (span_missing _ _ _ _ _ _ (ltb-false _ _ (sym c.in_err-span.ensures.lookup.0)))
 
-pub returns-in-None : goal.returns-in-None
-returns-in-None g c = record { pinned = sym (span_missing g.X.Amount.kind c.args.self.now.spans.now _ _ c.args.book c.args.weekend (ltb-false _ _ (sym c.in-None.ensures.lookup.0))); light = tt }
+pub returns-clause-pinned : goal.returns-clause-pinned
+returns-clause-pinned g c =
+    let found = c.in_ok-span.ensures.lookup in
+    span_answer _ _ _ _ c.weekends.result _ _ c.in_ok-span.field-0.now _ c.weekends.ensures c.quote.ensures (sym c.if-not-has.ensures) found.3.0 found.1
+
+pub returns-clause-light : goal.returns-clause-light
+returns-clause-light g c = span_light g.met.X.Amount.lawful c.weekends.result _ c.in_ok-span.field-0.now _ (omega arith) c.quote.ensures
