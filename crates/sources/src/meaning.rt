@@ -16,9 +16,6 @@ pub trait Source {
 
     ghost table: { Self → ℕ → ℕ → Option Self.Quote };
 
-    // The numbers are within their limits, and a pair outside them is shut.
-    ghost ranges: { InRange count weeks table };
-
     fn books(&self) -> usize
         ensures { result ≡ count self.now };
 
@@ -29,4 +26,7 @@ pub trait Source {
     fn quote(&self, book: usize, weekend: usize) -> Option<Self::Quote>
         ensures pinned { result ≡ table self.now book weekend }
         ensures light { IfSome result (λ x. Self.Quote.Amount.kind.weight x ≤ 1000000000) };
+
+    // A law: the numbers are within their limits, and a pair outside them is shut.
+    ghost ranges: { InRange count weeks table };
 }
