@@ -23,6 +23,7 @@ pub trait Source {
         ensures { result ≡ weeks self.now };
 
     // The amount of a pair, or none where it is shut. An amount that is handed out weighs at most 10^9.
+    // Stays two numbers, and no struct of the pair: any two may be asked, no fact ties them, and callers go through each by itself.
     fn quote(&self, book: usize, weekend: usize) -> Option<Self::Quote>
         ensures pinned { result ≡ table self.now book weekend }
         ensures light { IfSome result (λ x. Self.Quote.Amount.kind.weight x ≤ 1000000000) };
