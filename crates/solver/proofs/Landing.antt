@@ -92,7 +92,7 @@ module _ {V : Type 0} {K : Kind V} (L : Lawful K) (B : Problem V) (X : Charges V
 
   module _ (p f : ℕ → ℕ) (word' : ℕ → ℕ → Bool) (mate : B.class b ≡ k) (counts : Counts B p f) (i : Walks p f (node (p b) (B.class b)))
       (starts : (x : ℕ) → x < B.weekends → into x ≡ true → AtMost K (l (node x k)) (begin x))
-      (even : (x y : ℕ) → x < B.weekends → y < B.weekends → into x ≡ true → into y ≡ true → K.plus (begin x) (quoted K B b y) ≡ K.plus (begin y) (quoted K B b x)) (begins : (x : ℕ) → x < B.weekends → K.weight (begin x) ≤ 10 ^ 9)
+      (even : (x y : ℕ) → x < B.weekends → y < B.weekends → into x ≡ true → into y ≡ true → K.plus (begin x) (quoted K B b y) ≡ K.plus (begin y) (quoted K B b x)) (begins : (x : ℕ) → x < B.weekends → into x ≡ true → K.weight (begin x) ≤ 10 ^ 9)
       (mine : (x : ℕ) → word' b x ≡ into x) (theirs : (j x : ℕ) → (j ≡ b → ⊥) → word' j x ≡ word j x) where
     quotes_same : (q : ℕ → ℕ) (x : ℕ) → other_quotes K B b (put q b x) ≡ other_quotes K B b q
     unfolding other_quotes
@@ -133,7 +133,7 @@ module _ {V : Type 0} {K : Kind V} (L : Lawful K) (B : Problem V) (X : Charges V
           within = end.1;
           valid = end.2;
           costs = regroup L (spent K B X b z.plan g) (spent K B X b p f) (whole K B X q) (whole K B X p) (begin x) (l (node (p b) (B.class b))) (quoted K B b x) (quoted K B b (p b))
-              (omega (arith, s₁, s₂, begins x z.start.1, light (node (p b) (B.class b)), quoted_light L B fits.sound b x lb z.start.1, quoted_light L B fits.sound b (p b) lb (i.sent b lb))) new' old paid;
+              (omega (arith, s₁, s₂, begins x z.start.1 z.start.2, light (node (p b) (B.class b)), quoted_light L B fits.sound b x lb z.start.1, quoted_light L B fits.sound b (p b) lb (i.sent b lb))) new' old paid;
         }
 
     pub moved : Moved p word'

@@ -12,6 +12,7 @@ pub mod Landing
 pub mod Ends
 pub mod Reassign
 pub mod Begin
+pub mod OneClass
 pub mod Stages
 pub mod Above
 pub mod Banks

@@ -69,7 +69,7 @@ module _ {V : Type 0} {K : Kind V} (L : Lawful K) (B : Problem V) (s : Sound K B
 
   -- a search may be made where the labels show the state least
   searchable : Straight K B → (state : State) (origin : ℕ → Bool) (begin l : ℕ → Ranked Money V) → ShownIn K B state l → ((v : ℕ) → (soft_kind K).weight (begin v) ≤ 10 ^ 9) → SearchableIn K B state origin begin l
-  searchable straight state origin begin l shown light = record { fits = soft_fits L B s straight; sent = shown.inside.sent; valid = shown.valid; light = shown.light; begins = λ v _. light v }
+  searchable straight state origin begin l shown light = record { fits = soft_fits L B s straight; sent = shown.inside.sent; valid = shown.valid; light = shown.light; begins = λ v s h. rw h.2 (light v) }
 
   -- the book's search has ended: it may be taken back
   pub walkable : Straight K B → (state : State) (m₀ m₁ m₂ : Memory V) (b into x₀ : ℕ) → b < B.books → x₀ < B.weekends → bit_at into x₀ ≡ true → ShownIn K B state (old_of K m₀) → Started K B m₀ m₁ b into → Searches K B state m₁ m₂ → Walkable K B state m₂ b into

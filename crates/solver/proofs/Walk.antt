@@ -214,7 +214,7 @@ module _ {V : Type 0} {K : Kind V} (L : Lawful K) (B : Problem V) (X : Charges V
   -- ---- the hole is at a start: b is put there
   module _ (p q f : ℕ → ℕ) (word' : ℕ → ℕ → Bool) (v x₀ : ℕ) (lx : x₀ < B.weekends) (in' : into x₀ ≡ true) (mate : B.class b ≡ k) (at : v ≡ node x₀ k) (tight : l v ≡ begin x₀)
       (starts : (x : ℕ) → x < B.weekends → into x ≡ true → AtMost K (l (node x k)) (begin x))
-      (even : (x : ℕ) → x < B.weekends → into x ≡ true → K.plus (begin x) (quoted K B b x₀) ≡ K.plus (begin x₀) (quoted K B b x)) (begins : (x : ℕ) → x < B.weekends → K.weight (begin x) ≤ 10 ^ 9)
+      (even : (x : ℕ) → x < B.weekends → into x ≡ true → K.plus (begin x) (quoted K B b x₀) ≡ K.plus (begin x₀) (quoted K B b x)) (begins : (x : ℕ) → x < B.weekends → into x ≡ true → K.weight (begin x) ≤ 10 ^ 9)
       (mine : (x : ℕ) → word' b x ≡ into x) (theirs : (j x : ℕ) → (j ≡ b → ⊥) → word' j x ≡ word j x)
       (changed : q b ≡ x₀) (others : (j : ℕ) → j < B.books → (j ≡ b → ⊥) → q j ≡ p j) (i : Walks p f v) where
     at' : v ≡ node x₀ (B.class b)
@@ -228,8 +228,8 @@ module _ {V : Type 0} {K : Kind V} (L : Lawful K) (B : Problem V) (X : Charges V
         let d = light (node x₀ k) in
         let qx = quoted_light L B fits.sound b x lb hx in
         let q0 = quoted_light L B fits.sound b x₀ lb lx in
-        let bx = begins x hx in
-        let b0 = begins x₀ lx in
+        let bx = begins x hx hm in
+        let b0 = begins x₀ lx in' in
         rw mate (linear L (l (node x k) ∷ l (node x₀ k) ∷ quoted K B b x ∷ quoted K B b x₀ ∷ begin x ∷ begin x₀ ∷ []) ((var 0, var 4) ∷ (var 5, var 1) ∷ (var 4 ⊕ var 3, var 5 ⊕ var 2) ∷ []) (var 0) (var 1 ⊕ (var 2 ⊕ ⊖ (var 3))) (starts x hx hm, (inr (sym t), (inr (even x hx hm), tt))) (omega arith) refl)
 
     -- the counts are those of the new assignment, which is within the new words, and the labels are valid for it

@@ -1,5 +1,6 @@
 // Theorems that a search for a least plan stands on, over any kind of amounts. Each function has theorems for its contract and does nothing else.
 ghost use Rattle.solver.specs.Flows.{SoftConvex, Subgradient, LeastByLabels, LeastInScore, LabelsSettle, Hole, SoftFits, ColdValid, Search, SearchEnds, WalkBegins, Walk, Reassigns};
+ghost use Rattle.solver.specs.OneClass.{ColdByRises, ClassSearchable, ClassSearch, ClassSearchEnds, ClassReassigns};
 
 use amounts::Amount;
 
@@ -33,4 +34,14 @@ pub fn searches_stand<X: Amount>()
     ensures begun { WalkBegins X.Amount.kind }
     ensures walked { Walk X.Amount.kind }
     ensures reassigned { Reassigns X.Amount.kind }
+{}
+
+// The same of the search for one book, which starts from the nodes of the book's class: first labels that step by the rises are valid, the search may be made where its first labels are light, its steps keep its invariant,
+// and where it ends the walk back takes the book to its new place.
+pub fn class_searches_stand<X: Amount>()
+    ensures cold { ColdByRises X.Amount.kind }
+    ensures asked { ClassSearchable X.Amount.kind }
+    ensures kept { ClassSearch X.Amount.kind }
+    ensures ended { ClassSearchEnds X.Amount.kind }
+    ensures reassigned { ClassReassigns X.Amount.kind }
 {}
