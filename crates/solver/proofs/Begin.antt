@@ -1,8 +1,9 @@
 -- Where a search begins, and that its steps keep its invariant. Assumes nothing.
-use Rattle.std.proofs.Common.{◌≡◌, ℕ, zero, suc, ◌<◌, Bool, true, false, ltb, [], ◌∷◌, sym, refl, subst, inr, arith}
+use Rattle.std.proofs.Common.{◌≡◌, ℕ, suc, ◌<◌, Bool, true, ltb, [], ◌∷◌, sym, refl, ap, ◌∙◌, subst, inr, arith}
 use Rattle.std.proofs.lemmas.Bool.{le-ltb}
 use Rattle.amounts.specs.Kind.{Kind, Lawful, law_limit}
-use Rattle.amounts.specs.Sums.{tally}
+use Rattle.amounts.specs.Sums.{bit}
+use Rattle.amounts.proofs.Numbers.{sum_n_each_zero, tally_sum}
 use Rattle.amounts.proofs.Solve.{var, nil, ◌⊕◌, ⊖, linear}
 use Rattle.plans.specs.Problem.{Problem}
 use Rattle.solver.specs.Residual.{Live, node, above, Charges, tail, quoted, LightLabels, Fits, Valid}
@@ -43,11 +44,6 @@ module _ {V : Type 0} {K : Kind V} (L : Lawful K) where
           rw e (linear L (l (node (p b) (B.class b)) ∷ quoted K B b (p b) ∷ []) [] (var 0) (var 0 ⊕ (var 1 ⊕ ⊖ (var 1))) tt (omega arith) refl);
     }
 
-  none_pass : (n : ℕ) (t : ℕ → Bool) → ((i : ℕ) → t i ≡ false) → tally n t ≡ 0
-  unfolding tally
-  none_pass zero t h = refl
-  none_pass (suc n) t h = rw (h n) (none_pass n t h)
-
   pub cold_valid : ColdValid K
   cold_valid B X fits word l e p f light sent fixed is = cold B X fits word l e p f light sent fixed is
 
@@ -55,7 +51,7 @@ module _ {V : Type 0} {K : Kind V} (L : Lawful K) where
   pub steps_kept : (B : Problem V) (X : Charges V) (word : ℕ → ℕ → Bool) (Start : ℕ → V → Type 0) (p f : ℕ → ℕ) (pot : ℕ → V) → Searchable K B X word Start p f pot → SearchKept K B X word Start p f pot
   steps_kept B X word Start p f pot g = record {
     begins = λ d seen rank via late new starts met light. record {
-      counted = sym (none_pass nodes (λ v. ltb (rank v) nodes) (λ v. le-ltb (rank v) nodes (late v)));
+      counted = sym (tally_sum nodes (λ v. ltb (rank v) nodes) ∙ sum_n_each_zero nodes _ (λ v _. ap bit (le-ltb (rank v) nodes (late v))));
       ranked = λ v h. absurd (omega (arith, late v));
       order = λ u v h. absurd (omega (arith, late u));
       done = λ a h. absurd (omega (arith, late (tail B p a), h.1));

@@ -1,5 +1,5 @@
 -- The search over the arcs of a state: where it ends, its labels are valid and its arcs are tight. Assumes nothing.
-use Rattle.std.proofs.Common.{◌≡◌, ℕ, zero, suc, ◌<◌, ◌≤◌, Bool, true, Some, None, Option, sym, refl, ap, ◌∙◌, arith}
+use Rattle.std.proofs.Common.{◌≡◌, ℕ, zero, suc, ◌<◌, ◌≤◌, Bool, true, Some, None, Option, sym, ap, ◌∙◌, arith}
 use Rattle.amounts.specs.Kind.{Kind, Lawful, AtMost}
 use Rattle.solver.specs.declared.arcs.Arc.{Arc}
 use Rattle.solver.specs.declared.arcs.Arc.TheVariants.{Rise, Fall, Move}
@@ -7,6 +7,7 @@ use Rattle.plans.specs.Problem.{Problem}
 use Rattle.solver.specs.Residual.{node, sink, above, Charges, Counts, Live, head, tail, LightLabels, arc_cost, Valid}
 use Rattle.solver.specs.Walk.{Reached, Walking}
 use Rattle.solver.specs.Search.{nodes, FromClass, Searchable, Reason, Seeks}
+use Rattle.solver.proofs.Above.{above_root, above_other}
 use Rattle.solver.proofs.Hole.{hole}
 use Rattle.solver.proofs.Paths.{all_light}
 
@@ -18,33 +19,24 @@ module _ {V : Type 0} {K : Kind V} (L : Lawful K) (B : Problem V) (X : Charges V
     onward : (a : Arc) → Live B word a → seen (tail B p a) ≡ true → seen (head B a) ≡ true
     onward a h s = (i.done a (h, ended _ s)).1
 
-    above_root : (w : ℕ) → above B.parent w 0 ≡ sink
-    unfolding above
-    above_root w = refl
-
-    above_other : (w c : ℕ) → 0 < c → above B.parent w c ≡ node w (B.parent c)
-    unfolding above
-    above_other w zero h = absurd (omega arith)
-    above_other w (suc c) h = refl
-
     -- from a node up to the sink; k bounds the class
     climb : (n w c : ℕ) → c ≤ n → w < B.weekends → c < B.classes → seen (node w c) ≡ true → seen sink ≡ true
-    climb n w zero h lw lc s = ap seen (sym (above_root w)) ∙ onward (Rise w 0) (lw, lc) s
+    climb n w zero h lw lc s = ap seen (sym (above_root B.parent w)) ∙ onward (Rise w 0) (lw, lc) s
     climb zero w (suc c) h lw lc s = absurd (omega arith)
     climb (suc n) w (suc c) h lw lc s =
         let r = g.fits.sound.above (suc c) (omega arith) lc in
-        climb n w (B.parent (suc c)) (omega arith) lw (omega arith) (ap seen (sym (above_other w (suc c) (omega arith))) ∙ onward (Rise w (suc c)) (lw, lc) s)
+        climb n w (B.parent (suc c)) (omega arith) lw (omega arith) (ap seen (sym (above_other B.parent w (suc c) (omega arith))) ∙ onward (Rise w (suc c)) (lw, lc) s)
 
     sink_seen : seen sink ≡ true
     sink_seen = climb c₀ w₀ c₀ (omega arith) lw₀ lc₀ (i.starts (node w₀ c₀) s₀ o₀).0
 
     -- and from there down to each node
     pub descend : (n w c : ℕ) → c ≤ n → w < B.weekends → c < B.classes → seen (node w c) ≡ true
-    descend n w zero h lw lc = onward (Fall w 0) (lw, lc) (ap seen (above_root w) ∙ sink_seen)
+    descend n w zero h lw lc = onward (Fall w 0) (lw, lc) (ap seen (above_root B.parent w) ∙ sink_seen)
     descend zero w (suc c) h lw lc = absurd (omega arith)
     descend (suc n) w (suc c) h lw lc =
         let r = g.fits.sound.above (suc c) (omega arith) lc in
-        onward (Fall w (suc c)) (lw, lc) (ap seen (above_other w (suc c) (omega arith)) ∙ descend n w (B.parent (suc c)) (omega arith) lw (omega arith))
+        onward (Fall w (suc c)) (lw, lc) (ap seen (above_other B.parent w (suc c) (omega arith)) ∙ descend n w (B.parent (suc c)) (omega arith) lw (omega arith))
 
     above_seen : (w c : ℕ) → w < B.weekends → c < B.classes → seen (above B.parent w c) ≡ true
     above_seen w c lw lc = onward (Rise w c) (lw, lc) (descend c w c (omega arith) lw lc)

@@ -1,5 +1,5 @@
-pub mod Soft
 pub mod Rises
+pub mod Soft
 pub mod Subgradient
 pub mod Optimal
 pub mod Violations

@@ -5,7 +5,7 @@ use Rattle.amounts.proofs.Solve.{var, nil, ◌⊕◌, ⊖, linear}
 use Rattle.plans.specs.Problem.{Problem}
 use Rattle.solver.specs.Residual.{node, Charges, Fits}
 use Rattle.solver.specs.Search.{FromClass}
-use Rattle.solver.specs.OneClass.{ColdByRises, ClassSearchable, ClassSearch, ClassSearchEnds, ClassReassigns}
+use Rattle.solver.specs.OneClass.{ColdByRises, ClassSearch, ClassSearchEnds, ClassReassigns}
 use Rattle.solver.proofs.Walk.{shrinks}
 use Rattle.solver.proofs.Begin.{cold_valid, steps_kept}
 use Rattle.solver.proofs.Reassign.{OfClass, walk_from, reassigned_from}
@@ -26,15 +26,6 @@ module _ {V : Type 0} {K : Kind V} (L : Lawful K) where
     next = inr refl;
     last = rise_then_fall B X fits w c (f (node w c)) lw lc;
   })
-
-  pub class_searchable : ClassSearchable K
-  class_searchable B X word k into begin p f pot fits sent valid light begins = record {
-    fits = fits;
-    sent = sent;
-    valid = valid;
-    light = light;
-    begins = λ v s h. rw h.4 (begins h.0 h.1);
-  }
 
   pub class_search : ClassSearch K
   class_search B X word k into begin p f pot g = steps_kept L B X word (FromClass B k into begin) p f pot g

@@ -21,6 +21,10 @@ module _ {V : Type 0} {K : Kind V} (L : Lawful K) (B : Problem V) (X : Charges V
   abbrev pub Few : (ℕ → ℕ) → Type 0
   Few f = (w c : ℕ) → w < B.weekends → c < B.classes → f (node w c) ≤ 120
 
+  -- while the walk goes on, no count passes the number of books
+  pub walked_few : (p f : ℕ → ℕ) (v : ℕ) → Walks p f v → Few f
+  walked_few p f v i w c lw lc = (hole K B fits.sound).few p f b v w c lb lw lc i.holed
+
   pub charged_light : (f : ℕ → ℕ) → Few f → K.weight (charged K B X f) ≤ 128 * 10 ^ 13
   unfolding law_limit charged
   charged_light f few =
@@ -103,8 +107,8 @@ module _ {V : Type 0} {K : Kind V} (L : Lawful K) (B : Problem V) (X : Charges V
     unfolding law_limit
     spent_up =
         let q = quotes_light p i.sent in
-        let few : (w c : ℕ) → w < B.weekends → c < B.classes → f (node w c) ≤ 120 = λ w c hw hc. (hole K B fits.sound).few p f b v w c lb hw hc i.holed in
-        let few' : (w c : ℕ) → w < B.weekends → c < B.classes → g (node w c) ≤ 120 = λ w c hw hc. (hole K B fits.sound).few p g b (node w₀ c₀) w c lb hw hc j.holed in
+        let few = walked_few p f v i in
+        let few' = walked_few p g (node w₀ c₀) j in
         let t = charged_light f few in
         let r = (fits.convex w₀ c₀ lw lc).rise_light (f (node w₀ c₀)) in
         let n = light (node w₀ c₀) in
@@ -118,8 +122,8 @@ module _ {V : Type 0} {K : Kind V} (L : Lawful K) (B : Problem V) (X : Charges V
     unfolding law_limit
     spent_down =
         let q = quotes_light p i.sent in
-        let few : (w c : ℕ) → w < B.weekends → c < B.classes → f (node w c) ≤ 120 = λ w c hw hc. (hole K B fits.sound).few p f b v w c lb hw hc i.holed in
-        let few' : (w c : ℕ) → w < B.weekends → c < B.classes → g (node w c) ≤ 120 = λ w c hw hc. (hole K B fits.sound).few p g b (above B.parent w₀ c₀) w c lb hw hc j.holed in
+        let few = walked_few p f v i in
+        let few' = walked_few p g (above B.parent w₀ c₀) j in
         let t = charged_light g few' in
         let x = fits.convex w₀ c₀ lw lc in
         let m = g (node w₀ c₀) in
@@ -134,7 +138,7 @@ module _ {V : Type 0} {K : Kind V} (L : Lawful K) (B : Problem V) (X : Charges V
     pub spent_move : K.plus (spent K B X b q f) (l (node (p j₀) (B.class j₀))) ≡ K.plus (spent K B X b p f) (l v)
     unfolding law_limit
     spent_move =
-        let few : (w c : ℕ) → w < B.weekends → c < B.classes → f (node w c) ≤ 120 = λ w c hw hc. (hole K B fits.sound).few p f b v w c lb hw hc i.holed in
+        let few = walked_few p f v i in
         let t = charged_light f few in
         let n = light (node (p j₀) (B.class j₀)) in
         let a = quotes_light p i.sent in
@@ -148,14 +152,11 @@ module _ {V : Type 0} {K : Kind V} (L : Lawful K) (B : Problem V) (X : Charges V
         ∙ solve L ρ ((var 1 ⊕ var 5) ⊕ ((var 2 ⊕ var 3) ⊕ ⊖ (var 4))) ((var 1 ⊕ var 2) ⊕ (var 3 ⊕ (var 5 ⊕ ⊖ (var 4)))) (omega arith) (omega arith) refl)
 
   -- the whole cost of an assignment whose counts f has
-  pub spent_whole : (p f : ℕ → ℕ) → ((j : ℕ) → j < B.books → p j < B.weekends) → Counts B p f → ((w c : ℕ) → w < B.weekends → c < B.classes → f (node w c) ≤ 120) → whole K B X p ≡ K.plus (spent K B X b p f) (quoted K B b (p b))
+  pub spent_whole : (p f : ℕ → ℕ) → ((j : ℕ) → j < B.books → p j < B.weekends) → Counts B p f → Few f → whole K B X p ≡ K.plus (spent K B X b p f) (quoted K B b (p b))
   unfolding law_limit whole
   spent_whole p f sent counts few =
       let a = quotes_light p sent in
       let t = charged_light f few in
       let q = quoted_light L B fits.sound b (p b) lb (sent b lb) in
-      ap₂ K.plus (quotes_whole p sent) (same counts)
+      ap₂ K.plus (quotes_whole p sent) (charged_same p f counts)
       ∙ solve L (other_quotes K B b p ∷ charged K B X f ∷ quoted K B b (p b) ∷ []) ((var 0 ⊕ var 2) ⊕ var 1) ((var 0 ⊕ var 1) ⊕ var 2) (omega arith) (omega arith) refl
-    where
-      same : Counts B p f → table_sum K B.weekends B.classes (λ w c. X.price w c (count B p w c)) ≡ charged K B X f
-      same h = charged_same p f h
