@@ -36,8 +36,8 @@ pub fn searches_stand<X: Amount>()
     ensures reassigned { Reassigns X.Amount.kind }
 {}
 
-// The same of the search for one book, which starts from the nodes of the book's class: first labels that step by the rises are valid, the search may be made where its first labels are light, its steps keep its invariant,
-// and where it ends the walk back takes the book to its new place.
+// The same of a search whose starts are given by one class, as for one book: a search may begin from labels that step by the rises, and wherever its first labels are light;
+// its steps keep its invariant; where it ends, the walk back takes the book to its new place.
 pub fn class_searches_stand<X: Amount>()
     ensures cold { ColdByRises X.Amount.kind }
     ensures asked { ClassSearchable X.Amount.kind }
