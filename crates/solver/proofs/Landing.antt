@@ -7,7 +7,7 @@ use Rattle.amounts.proofs.Solve.{var, ◌⊕◌, linear_equal}
 use Rattle.solver.specs.declared.arcs.Arc.{Arc}
 use Rattle.solver.specs.declared.arcs.Arc.TheVariants.{Rise, Fall, Move}
 use Rattle.plans.specs.Problem.{Problem}
-use Rattle.solver.specs.Residual.{node, above, Charges, Counts, Inside, quoted, LightLabels, Fits, Valid, whole}
+use Rattle.solver.specs.Residual.{node, above, Charges, Counts, ButFor, Inside, quoted, LightLabels, Fits, Valid, whole}
 use Rattle.solver.specs.Walk.{other_quotes, charged, spent, Reached, Walking}
 use Rattle.solver.proofs.Optimal.{quoted_light}
 use Rattle.solver.proofs.Walk.{step_up, step_down, step_move, step_end, down_room, apart}
@@ -68,7 +68,7 @@ module _ {V : Type 0} {K : Kind V} (L : Lawful K) (B : Problem V) (X : Charges V
       go next (Some (Move j₀ x)) t =
           let q = put p j₀ x in
           let e = put_here p j₀ x in
-          let o : (j : ℕ) → j < B.books → (j ≡ j₀ → ⊥) → q j ≡ p j = λ j _ d. put_there p j₀ x j d in
+          let o : ButFor B j₀ p q = λ j _ d. put_there p j₀ x j d in
           let j = step_move L B X fits word k into begin b lb l light rank via p q f v j₀ x t.0.0 t.0.1 t.0.2 t.1 t.2 t.3 e o i in
           let a = apart L B X fits word k into begin b lb l light rank via p q f v j₀ x t.0.0 t.0.1 t.0.2 t.1 t.2 t.3 e o i in
           onward p f q f v (node (p j₀) (B.class j₀)) (spent_move L B X fits word k into begin b lb l light rank via p q f v j₀ x t.0.0 a t.0.1 t.3 e o i j) (next q f (node (p j₀) (B.class j₀)) (omega (arith, t.2)) j)

@@ -9,7 +9,7 @@ use Rattle.amounts.proofs.Tables.{weighs_le, table_weight, table_same, table_set
 use Rattle.amounts.proofs.Solve.{var, ◌⊕◌, ⊖, solve}
 use Rattle.solver.specs.declared.arcs.Arc.{Arc}
 use Rattle.plans.specs.Problem.{Problem, count, total}
-use Rattle.solver.specs.Residual.{node, above, Charges, Counts, quoted, moving, LightLabels, Fits, whole}
+use Rattle.solver.specs.Residual.{node, above, Charges, Counts, ButFor, ButAt, quoted, moving, LightLabels, Fits, whole}
 use Rattle.solver.specs.Walk.{other_quotes, charged, spent, Walking}
 use Rattle.solver.proofs.Hole.{hole}
 use Rattle.solver.proofs.Optimal.{quoted_light}
@@ -33,7 +33,7 @@ module _ {V : Type 0} {K : Kind V} (L : Lawful K) (B : Problem V) (X : Charges V
       omega (arith, table_weight L B.weekends B.classes (λ w c. X.price w c (f (node w c))) (omega arith))
 
   -- one count more: its rise is charged
-  charged_more : (f g : ℕ → ℕ) (w₀ c₀ : ℕ) → w₀ < B.weekends → c₀ < B.classes → Few f → Few g → g (node w₀ c₀) ≡ suc (f (node w₀ c₀)) → ((v : ℕ) → (v ≡ node w₀ c₀ → ⊥) → g v ≡ f v) →
+  charged_more : (f g : ℕ → ℕ) (w₀ c₀ : ℕ) → w₀ < B.weekends → c₀ < B.classes → Few f → Few g → g (node w₀ c₀) ≡ suc (f (node w₀ c₀)) → ButAt (node w₀ c₀) f g →
       charged K B X g ≡ K.plus (charged K B X f) (X.rise w₀ c₀ (f (node w₀ c₀)))
   unfolding law_limit charged
   charged_more f g w₀ c₀ lw lc ff fg e o =
@@ -74,7 +74,7 @@ module _ {V : Type 0} {K : Kind V} (L : Lawful K) (B : Problem V) (X : Charges V
   quotes_light p sent = let w = quotes_weigh p sent in omega (arith, sum_weight L B.books (λ j. cond (eqb j b) K.none (quoted K B j (p j))) (omega arith))
 
   -- another book moved: the difference of its quotes
-  quotes_moved : (p q : ℕ → ℕ) (j₀ : ℕ) → j₀ < B.books → (j₀ ≡ b → ⊥) → ((j : ℕ) → j < B.books → p j < B.weekends) → ((j : ℕ) → j < B.books → q j < B.weekends) → ((j : ℕ) → j < B.books → (j ≡ j₀ → ⊥) → q j ≡ p j) →
+  quotes_moved : (p q : ℕ → ℕ) (j₀ : ℕ) → j₀ < B.books → (j₀ ≡ b → ⊥) → ((j : ℕ) → j < B.books → p j < B.weekends) → ((j : ℕ) → j < B.books → q j < B.weekends) → ButFor B j₀ p q →
       K.plus (other_quotes K B b q) (quoted K B j₀ (p j₀)) ≡ K.plus (other_quotes K B b p) (quoted K B j₀ (q j₀))
   unfolding law_limit other_quotes
   quotes_moved p q j₀ lj n sp sq o =
@@ -102,7 +102,7 @@ module _ {V : Type 0} {K : Kind V} (L : Lawful K) (B : Problem V) (X : Charges V
 
   -- ---- what is spent and the label at the hole add up to the same at every step
   module _ (p f g : ℕ → ℕ) (v w₀ c₀ : ℕ) (lw : w₀ < B.weekends) (lc : c₀ < B.classes) (at : v ≡ above B.parent w₀ c₀)
-      (tight : l v ≡ K.plus (l (node w₀ c₀)) (X.rise w₀ c₀ (f (node w₀ c₀)))) (changed : g (node w₀ c₀) ≡ suc (f (node w₀ c₀))) (others : (u : ℕ) → (u ≡ node w₀ c₀ → ⊥) → g u ≡ f u) (i : Walks p f v) (j : Walks p g (node w₀ c₀)) where
+      (tight : l v ≡ K.plus (l (node w₀ c₀)) (X.rise w₀ c₀ (f (node w₀ c₀)))) (changed : g (node w₀ c₀) ≡ suc (f (node w₀ c₀))) (others : ButAt (node w₀ c₀) f g) (i : Walks p f v) (j : Walks p g (node w₀ c₀)) where
     pub spent_up : K.plus (spent K B X b p g) (l (node w₀ c₀)) ≡ K.plus (spent K B X b p f) (l v)
     unfolding law_limit
     spent_up =
@@ -117,7 +117,7 @@ module _ {V : Type 0} {K : Kind V} (L : Lawful K) (B : Problem V) (X : Charges V
         ∙ ap (K.plus (spent K B X b p f)) (sym tight)
 
   module _ (p f g : ℕ → ℕ) (v w₀ c₀ : ℕ) (lw : w₀ < B.weekends) (lc : c₀ < B.classes)
-      (tight : l v ≡ K.plus (l (above B.parent w₀ c₀)) (X.fall w₀ c₀ (f (node w₀ c₀)))) (changed : f (node w₀ c₀) ≡ suc (g (node w₀ c₀))) (others : (u : ℕ) → (u ≡ node w₀ c₀ → ⊥) → g u ≡ f u) (i : Walks p f v) (j : Walks p g (above B.parent w₀ c₀)) where
+      (tight : l v ≡ K.plus (l (above B.parent w₀ c₀)) (X.fall w₀ c₀ (f (node w₀ c₀)))) (changed : f (node w₀ c₀) ≡ suc (g (node w₀ c₀))) (others : ButAt (node w₀ c₀) f g) (i : Walks p f v) (j : Walks p g (above B.parent w₀ c₀)) where
     pub spent_down : K.plus (spent K B X b p g) (l (above B.parent w₀ c₀)) ≡ K.plus (spent K B X b p f) (l v)
     unfolding law_limit
     spent_down =
@@ -134,7 +134,7 @@ module _ {V : Type 0} {K : Kind V} (L : Lawful K) (B : Problem V) (X : Charges V
         ∙ ap₂ (λ z u. K.plus (K.plus (other_quotes K B b p) z) u) (sym (charged_more g f w₀ c₀ lw lc few' few changed (λ u d. sym (others u d)))) (sym back)
 
   module _ (p q f : ℕ → ℕ) (v j₀ y : ℕ) (lj : j₀ < B.books) (apart : j₀ ≡ b → ⊥) (ly : y < B.weekends)
-      (tight : l v ≡ K.plus (l (node (p j₀) (B.class j₀))) (moving K B j₀ (p j₀) y)) (changed : q j₀ ≡ y) (others : (j : ℕ) → j < B.books → (j ≡ j₀ → ⊥) → q j ≡ p j) (i : Walks p f v) (j : Walks q f (node (p j₀) (B.class j₀))) where
+      (tight : l v ≡ K.plus (l (node (p j₀) (B.class j₀))) (moving K B j₀ (p j₀) y)) (changed : q j₀ ≡ y) (others : ButFor B j₀ p q) (i : Walks p f v) (j : Walks q f (node (p j₀) (B.class j₀))) where
     pub spent_move : K.plus (spent K B X b q f) (l (node (p j₀) (B.class j₀))) ≡ K.plus (spent K B X b p f) (l v)
     unfolding law_limit
     spent_move =
