@@ -38,6 +38,7 @@ pub fn searches_stand<X: Amount>()
 
 // The same of a search whose starts are given by one class, as for one book: a search may begin from labels that step by the rises, and wherever its first labels are light;
 // its steps keep its invariant; where it ends, the walk back takes the book to its new place.
+// Stays beside the clauses above, since a theorem on every kind of starts is of Type 1 and the check takes a clause of Type 0 only ("expected type `Type 0`, but this has type `Type 1`").
 pub fn class_searches_stand<X: Amount>()
     ensures cold { ColdByRises X.Amount.kind }
     ensures asked { ClassSearchable X.Amount.kind }
