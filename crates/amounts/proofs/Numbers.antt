@@ -75,7 +75,7 @@ unfolding tally
 tally_sum zero t = refl
 tally_sum (suc n) t = tally_more n t ∙ ap (λ k. k + bit (t n)) (tally_sum n t)
 
-bit_le : (b : Bool) → bit b ≤ 1
+pub bit_le : (b : Bool) → bit b ≤ 1
 bit_le true = omega arith
 bit_le false = omega arith
 

@@ -8,8 +8,3 @@ pub mod Bounding
 pub mod Posed
 pub mod Free
 pub mod Theorems
-pub mod Soft
-pub mod Residual
-pub mod Walk
-pub mod Search
-pub mod Flows

@@ -10,5 +10,3 @@ pub use worked::board_z_stands;
 mod both_checks;
 #[cfg(test)]
 mod rosters;
-#[cfg(test)]
-mod soft_bounds;

@@ -1,13 +1,14 @@
 -- Where a search begins, and that its steps keep its invariant. Assumes nothing.
-use Rattle.std.proofs.Common.{◌≡◌, ℕ, zero, suc, ◌<◌, Bool, true, false, ltb, [], ◌∷◌, sym, refl, subst, inr, arith}
+use Rattle.std.proofs.Common.{◌≡◌, ℕ, suc, ◌<◌, Bool, true, ltb, [], ◌∷◌, sym, refl, ap, ◌∙◌, subst, inr, arith}
 use Rattle.std.proofs.lemmas.Bool.{le-ltb}
 use Rattle.amounts.specs.Kind.{Kind, Lawful, law_limit}
-use Rattle.amounts.specs.Sums.{tally}
+use Rattle.amounts.specs.Sums.{bit}
+use Rattle.amounts.proofs.Numbers.{sum_n_each_zero, tally_sum}
 use Rattle.amounts.proofs.Solve.{var, nil, ◌⊕◌, ⊖, linear}
 use Rattle.plans.specs.Problem.{Problem}
 use Rattle.solver.specs.Residual.{Live, node, above, Charges, tail, quoted, LightLabels, Fits, Valid}
-use Rattle.solver.specs.Flows.{SoftFits, Stepped, ColdValid, Search}
-use Rattle.solver.specs.Search.{nodes, Last, Staged}
+use Rattle.solver.specs.Flows.{SoftFits, Stepped, ColdValid, SearchKept, Search}
+use Rattle.solver.specs.Search.{nodes, FromOrigins, Searchable, Last, Staged}
 use Rattle.solver.proofs.Optimal.{quoted_light}
 use Rattle.solver.proofs.Soft.{soft_convex}
 use Rattle.solver.proofs.Violations.{softened_sound, soft_charges_convex}
@@ -43,18 +44,14 @@ module _ {V : Type 0} {K : Kind V} (L : Lawful K) where
           rw e (linear L (l (node (p b) (B.class b)) ∷ quoted K B b (p b) ∷ []) [] (var 0) (var 0 ⊕ (var 1 ⊕ ⊖ (var 1))) tt (omega arith) refl);
     }
 
-  none_pass : (n : ℕ) (t : ℕ → Bool) → ((i : ℕ) → t i ≡ false) → tally n t ≡ 0
-  unfolding tally
-  none_pass zero t h = refl
-  none_pass (suc n) t h = rw (h n) (none_pass n t h)
-
   pub cold_valid : ColdValid K
   cold_valid B X fits word l e p f light sent fixed is = cold B X fits word l e p f light sent fixed is
 
-  pub search_steps : Search K
-  search_steps B X word origin begin p f pot g = record {
+  -- wherever it starts
+  pub steps_kept : (B : Problem V) (X : Charges V) (word : ℕ → ℕ → Bool) (Start : ℕ → V → Type 0) (p f : ℕ → ℕ) (pot : ℕ → V) → Searchable K B X word Start p f pot → SearchKept K B X word Start p f pot
+  steps_kept B X word Start p f pot g = record {
     begins = λ d seen rank via late new starts met light. record {
-      counted = sym (none_pass nodes (λ v. ltb (rank v) nodes) (λ v. le-ltb (rank v) nodes (late v)));
+      counted = sym (tally_sum nodes (λ v. ltb (rank v) nodes) ∙ sum_n_each_zero nodes _ (λ v _. ap bit (le-ltb (rank v) nodes (late v))));
       ranked = λ v h. absurd (omega (arith, late v));
       order = λ u v h. absurd (omega (arith, late u));
       done = λ a h. absurd (omega (arith, late (tail B p a), h.1));
@@ -64,36 +61,44 @@ module _ {V : Type 0} {K : Kind V} (L : Lawful K) where
       light = λ v. omega (arith, light v);
     };
     settles = λ t d seen rank rank' via u i lu su open' least mine others.
-        let room = settle_room L B X word origin begin p f pot g _ t d seen rank via i u lu su open' least rank' mine others in
-        let next = settle L B X word origin begin p f pot g _ t d seen rank via i u lu su open' least rank' mine others in (
+        let room = settle_room L B X word Start p f pot g _ t d seen rank via i u lu su open' least rank' mine others in
+        let next = settle L B X word Start p f pot g _ t d seen rank via i u lu su open' least rank' mine others in (
           room,
           record {
             settled = omega arith;
-            last = settle_last L B X word origin begin p f pot g _ t d seen rank via i u lu su open' least rank' mine others;
-            searching = fewer L B X word origin begin p f pot g _ (suc t) d seen rank' via next (Staged B word p rank' u 0) (stage_first B g.fits.sound word p rank rank' u others);
+            last = settle_last L B X word Start p f pot g _ t d seen rank via i u lu su open' least rank' mine others;
+            searching = fewer L B X word Start p f pot g _ (suc t) d seen rank' via next (Staged B word p rank' u 0) (stage_first B g.fits.sound word p rank rank' u others);
           },
         );
     skips = λ t d seen rank via u s s' i gap. record {
       settled = i.settled;
       last = i.last;
-      searching = fewer L B X word origin begin p f pot g _ t d seen rank via i.searching (Staged B word p rank u s') (stage_skip B g.fits.sound word p rank u s s' gap);
+      searching = fewer L B X word Start p f pot g _ t d seen rank via i.searching (Staged B word p rank u s') (stage_skip B g.fits.sound word p rank u s s' gap);
     };
-    no_better = λ t d seen rank via u s a i n h. no_better L B X word origin begin p f pot g _ t d seen rank via i.searching a n.live (rw n.from i.settled) (rw n.from i.last) h;
+    skips_one = λ t d seen rank via u s i gap. record {
+      settled = i.settled;
+      last = i.last;
+      searching = fewer L B X word Start p f pot g _ t d seen rank via i.searching (Staged B word p rank u (suc s)) (stage_skip B g.fits.sound word p rank u s (suc s) (λ a la ta le lt. gap a (record { live = la; from = ta; at = omega arith })));
+    };
+    no_better = λ t d seen rank via u s a i n h. no_better L B X word Start p f pot g _ t d seen rank via i.searching a n.live (rw n.from i.settled) (rw n.from i.last) h;
     keeps = λ t d seen rank via u s a i n sh h. record {
       settled = i.settled;
       last = i.last;
-      searching = fewer L B X word origin begin p f pot g _ t d seen rank via (relax_none L B X word origin begin p f pot g _ t d seen rank via i.searching a n.live (rw n.from i.settled) sh h)
+      searching = fewer L B X word Start p f pot g _ t d seen rank via (relax_none L B X word Start p f pot g _ t d seen rank via i.searching a n.live (rw n.from i.settled) sh h)
           (Staged B word p rank u (suc s)) (stage_take B g.fits.sound word p rank u s a n.live n.from n.at);
     };
     lowers = λ t d d' seen seen' rank via via' u s a i n open' lower now met by' same.
         let hu : rank (tail B p a) < nodes = rw n.from i.settled in
-        let last : Last K B X word origin begin p f pot d rank (tail B p a) = rw n.from i.last in
+        let last : Last K B X word Start p f pot d rank (tail B p a) = rw n.from i.last in
         record {
           settled = i.settled;
-          last = subst (Last K B X word origin begin p f pot d' rank) n.from (relax_last L B X word origin begin p f pot g _ t d seen rank via i.searching a n.live hu last open' lower d' seen' via' now met by' (λ v m. (same v m).0) (λ v m. (same v m).1) (λ v m. (same v m).2));
-          searching = fewer L B X word origin begin p f pot g _ t d' seen' rank via'
-              (relax L B X word origin begin p f pot g _ t d seen rank via i.searching a n.live hu last open' lower d' seen' via' now met by' (λ v m. (same v m).0) (λ v m. (same v m).1) (λ v m. (same v m).2))
+          last = subst (Last K B X word Start p f pot d' rank) n.from (relax_last L B X word Start p f pot g _ t d seen rank via i.searching a n.live hu last open' lower d' seen' via' now met by' (λ v m. (same v m).0) (λ v m. (same v m).1) (λ v m. (same v m).2));
+          searching = fewer L B X word Start p f pot g _ t d' seen' rank via'
+              (relax L B X word Start p f pot g _ t d seen rank via i.searching a n.live hu last open' lower d' seen' via' now met by' (λ v m. (same v m).0) (λ v m. (same v m).1) (λ v m. (same v m).2))
               (Staged B word p rank u (suc s)) (stage_take B g.fits.sound word p rank u s a n.live n.from n.at);
         };
-    goes_on = λ t d seen rank via u i. fewer L B X word origin begin p f pot g _ t d seen rank via i.searching (λ a. Live B word a × (rank (tail B p a) < nodes)) (stage_last B g.fits.sound word p rank u);
+    goes_on = λ t d seen rank via u i. fewer L B X word Start p f pot g _ t d seen rank via i.searching (λ a. Live B word a × (rank (tail B p a) < nodes)) (stage_last B g.fits.sound word p rank u);
   }
+
+  pub search_steps : Search K
+  search_steps B X word origin begin p f pot g = steps_kept B X word (FromOrigins origin begin) p f pot g

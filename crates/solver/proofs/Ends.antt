@@ -1,51 +1,42 @@
 -- The search over the arcs of a state: where it ends, its labels are valid and its arcs are tight. Assumes nothing.
-use Rattle.std.proofs.Common.{◌≡◌, ℕ, zero, suc, ◌<◌, ◌≤◌, Bool, true, Some, None, Option, sym, refl, ap, ◌∙◌, arith}
+use Rattle.std.proofs.Common.{◌≡◌, ℕ, zero, suc, ◌<◌, ◌≤◌, Bool, true, Some, None, Option, sym, ap, ◌∙◌, arith}
 use Rattle.amounts.specs.Kind.{Kind, Lawful, AtMost}
 use Rattle.solver.specs.declared.arcs.Arc.{Arc}
 use Rattle.solver.specs.declared.arcs.Arc.TheVariants.{Rise, Fall, Move}
 use Rattle.plans.specs.Problem.{Problem}
 use Rattle.solver.specs.Residual.{node, sink, above, Charges, Counts, Live, head, tail, LightLabels, arc_cost, Valid}
 use Rattle.solver.specs.Walk.{Reached, Walking}
-use Rattle.solver.specs.Search.{nodes, Searchable, Reason, Seeks}
-use Rattle.solver.specs.Flows.{StartsAt}
+use Rattle.solver.specs.Search.{nodes, FromClass, Searchable, Reason, Seeks}
+use Rattle.solver.proofs.Above.{above_root, above_other}
 use Rattle.solver.proofs.Hole.{hole}
 use Rattle.solver.proofs.Paths.{all_light}
 
-module _ {V : Type 0} {K : Kind V} (L : Lawful K) (B : Problem V) (X : Charges V) (word : ℕ → ℕ → Bool) (origin : ℕ → Bool) (begin : ℕ → V) (p f : ℕ → ℕ) (pot : ℕ → V) (g : Searchable K B X word origin begin p f pot) where
+module _ {V : Type 0} {K : Kind V} (L : Lawful K) (B : Problem V) (X : Charges V) (word : ℕ → ℕ → Bool) (Start : ℕ → V → Type 0) (p f : ℕ → ℕ) (pot : ℕ → V) (g : Searchable K B X word Start p f pot) where
   -- the search has come to its end: no node that is seen is left
-  module _ (t : ℕ) (d : ℕ → V) (seen : ℕ → Bool) (rank : ℕ → ℕ) (via : ℕ → Option Arc) (i : Seeks K B X word origin begin p f pot t d seen rank via)
-      (ended : (v : ℕ) → seen v ≡ true → rank v < nodes) (w₀ c₀ : ℕ) (lw₀ : w₀ < B.weekends) (lc₀ : c₀ < B.classes) (o₀ : origin (node w₀ c₀) ≡ true) where
+  module _ (t : ℕ) (d : ℕ → V) (seen : ℕ → Bool) (rank : ℕ → ℕ) (via : ℕ → Option Arc) (i : Seeks K B X word Start p f pot t d seen rank via)
+      (ended : (v : ℕ) → seen v ≡ true → rank v < nodes) (w₀ c₀ : ℕ) (s₀ : V) (lw₀ : w₀ < B.weekends) (lc₀ : c₀ < B.classes) (o₀ : Start (node w₀ c₀) s₀) where
     -- a seen node's arcs lead to seen nodes
     onward : (a : Arc) → Live B word a → seen (tail B p a) ≡ true → seen (head B a) ≡ true
     onward a h s = (i.done a (h, ended _ s)).1
 
-    above_root : (w : ℕ) → above B.parent w 0 ≡ sink
-    unfolding above
-    above_root w = refl
-
-    above_other : (w c : ℕ) → 0 < c → above B.parent w c ≡ node w (B.parent c)
-    unfolding above
-    above_other w zero h = absurd (omega arith)
-    above_other w (suc c) h = refl
-
     -- from a node up to the sink; k bounds the class
     climb : (n w c : ℕ) → c ≤ n → w < B.weekends → c < B.classes → seen (node w c) ≡ true → seen sink ≡ true
-    climb n w zero h lw lc s = ap seen (sym (above_root w)) ∙ onward (Rise w 0) (lw, lc) s
+    climb n w zero h lw lc s = ap seen (sym (above_root B.parent w)) ∙ onward (Rise w 0) (lw, lc) s
     climb zero w (suc c) h lw lc s = absurd (omega arith)
     climb (suc n) w (suc c) h lw lc s =
         let r = g.fits.sound.above (suc c) (omega arith) lc in
-        climb n w (B.parent (suc c)) (omega arith) lw (omega arith) (ap seen (sym (above_other w (suc c) (omega arith))) ∙ onward (Rise w (suc c)) (lw, lc) s)
+        climb n w (B.parent (suc c)) (omega arith) lw (omega arith) (ap seen (sym (above_other B.parent w (suc c) (omega arith))) ∙ onward (Rise w (suc c)) (lw, lc) s)
 
     sink_seen : seen sink ≡ true
-    sink_seen = climb c₀ w₀ c₀ (omega arith) lw₀ lc₀ (i.starts (node w₀ c₀) (begin (node w₀ c₀)) (omega (arith, g.fits.sound.weekends, g.fits.sound.classes), o₀, refl)).0
+    sink_seen = climb c₀ w₀ c₀ (omega arith) lw₀ lc₀ (i.starts (node w₀ c₀) s₀ o₀).0
 
     -- and from there down to each node
     pub descend : (n w c : ℕ) → c ≤ n → w < B.weekends → c < B.classes → seen (node w c) ≡ true
-    descend n w zero h lw lc = onward (Fall w 0) (lw, lc) (ap seen (above_root w) ∙ sink_seen)
+    descend n w zero h lw lc = onward (Fall w 0) (lw, lc) (ap seen (above_root B.parent w) ∙ sink_seen)
     descend zero w (suc c) h lw lc = absurd (omega arith)
     descend (suc n) w (suc c) h lw lc =
         let r = g.fits.sound.above (suc c) (omega arith) lc in
-        onward (Fall w (suc c)) (lw, lc) (ap seen (above_other w (suc c) (omega arith)) ∙ descend n w (B.parent (suc c)) (omega arith) lw (omega arith))
+        onward (Fall w (suc c)) (lw, lc) (ap seen (above_other B.parent w (suc c) (omega arith)) ∙ descend n w (B.parent (suc c)) (omega arith) lw (omega arith))
 
     above_seen : (w c : ℕ) → w < B.weekends → c < B.classes → seen (above B.parent w c) ≡ true
     above_seen w c lw lc = onward (Rise w c) (lw, lc) (descend c w c (omega arith) lw lc)
@@ -66,18 +57,18 @@ module _ {V : Type 0} {K : Kind V} (L : Lawful K) (B : Problem V) (X : Charges V
     }
 
     pub found_light : LightLabels K B d
-    found_light = all_light L B X word origin begin p f pot g _ t d seen rank via i
+    found_light = all_light L B X word Start p f pot g _ t d seen rank via i
 
     -- no start's label has risen
-    pub found_starts : (v : ℕ) → v < nodes → origin v ≡ true → AtMost K (d v) (begin v)
-    found_starts v lv h = (i.starts v (begin v) (lv, h, refl)).1
+    pub found_starts : (v : ℕ) (s : V) → Start v s → AtMost K (d v) s
+    found_starts v s h = (i.starts v s h).1
 
-    module _ (k : ℕ) (into : ℕ → Bool) (first : ℕ → V) (at : StartsAt K B origin begin k into first) where
+    module _ (k : ℕ) (into : ℕ → Bool) (first : ℕ → V) (only : (v : ℕ) (s : V) → Start v s → FromClass B k into first v s) where
       found_tight : (v : ℕ) → rank v < nodes → Reached K B X word k into first d rank p f v (via v)
       found_tight v h = go (via v) (i.reason v (i.ranked v h).1)
         where
-          go : (o : Option Arc) → Reason K B X word origin begin p f pot d rank v o → Reached K B X word k into first d rank p f v o
-          go None r = let s = at.only v r.1 in (s.0, s.1, s.2, s.3, r.2 ∙ s.4)
+          go : (o : Option Arc) → Reason K B X word Start p f pot d rank v o → Reached K B X word k into first d rank p f v o
+          go None r = only v (d v) r
           go (Some a) r = (r.0, sym r.1, r.3 h, r.4)
 
       -- the walk of a book begins with the hole where it was

@@ -3,12 +3,12 @@ use Rattle.std.proofs.Common.{◌≡◌, ℕ, zero, suc, ◌+◌, ◌*◌, ◌/�
 use Rattle.std.proofs.lemmas.Bool.{cases_Bool, eq-eqb, ne_eqb, eqb-true, eqb-false, and_cases, and_parts, and_from, and_left}
 use Rattle.amounts.specs.Kind.{Kind}
 use Rattle.amounts.specs.Sums.{bit}
-use Rattle.amounts.proofs.Numbers.{tally_le, tally_miss, tally_set, tally_has}
+use Rattle.amounts.proofs.Numbers.{bit_le, tally_le, tally_miss, tally_set, tally_has}
 use Rattle.plans.specs.Problem.{Problem, climbs, member, count}
 use Rattle.plans.specs.Theorems.{Sound}
 use Rattle.solver.specs.Residual.{node, sink, above, covers, Counts, Holed, ButFor, ButAt}
 use Rattle.solver.specs.Flows.{Hole}
-use Rattle.plans.proofs.Climbing.{climbs_two, climbs_le}
+use Rattle.plans.proofs.Climbing.{climbs_two, climbs_le, climbs_here}
 
 module _ (parent : ℕ → ℕ) where
   covers_node : (w₀ c₀ w c : ℕ) → c₀ < 8 → covers parent (node w₀ c₀) w c ≡ (eqb w₀ w && climbs parent c₀ c₀ c)
@@ -88,12 +88,8 @@ module _ {V : Type 0} {K : Kind V} (B : Problem V) (s : Sound K B) where
   hole_counted p f b w₀ c₀ l lw lc h =
       let a = h w₀ c₀ lw lc in
       let k = count_has p b w₀ c₀ l in
-      let e : covers B.parent (node w₀ c₀) w₀ c₀ ≡ true = covers_node B.parent w₀ c₀ w₀ c₀ (omega (arith, s.classes)) ∙ and_from (eqb w₀ w₀) _ (eq-eqb w₀ w₀ refl) (itself c₀ c₀) in
+      let e : covers B.parent (node w₀ c₀) w₀ c₀ ≡ true = covers_node B.parent w₀ c₀ w₀ c₀ (omega (arith, s.classes)) ∙ and_from (eqb w₀ w₀) _ (eq-eqb w₀ w₀ refl) (climbs_here B.parent s.root B.classes s.above c₀ c₀ refl ∙ eq-eqb c₀ c₀ refl) in
       omega (arith, ap bit e)
-    where
-      itself : (k x : ℕ) → climbs B.parent k x x ≡ true
-      itself zero x = eq-eqb x x refl
-      itself (suc k) x = ap (λ u. u || climbs B.parent k (B.parent x) x) (eq-eqb x x refl)
 
   -- the other books are fewer than all
   rest_lt : (p : ℕ → ℕ) (b w c : ℕ) → b < B.books → count B p w c < B.books + bit (eqb (p b) w && member B b c)
@@ -102,10 +98,6 @@ module _ {V : Type 0} {K : Kind V} (B : Problem V) (s : Sound K B) where
       (λ (e : (eqb (p b) w && member B b c) ≡ true). omega (arith, ap bit e, tally_le B.books (λ j. eqb (p j) w && member B j c)))
       (λ (e : (eqb (p b) w && member B b c) ≡ false). omega (arith, tally_miss B.books b (λ j. eqb (p j) w && member B j c) lb e))
       (cases_Bool (eqb (p b) w && member B b c))
-
-  bit_le : (t : Bool) → bit t ≤ 1
-  bit_le true = omega arith
-  bit_le false = omega arith
 
   -- no count rises above the number of books
   holed_le : (p f : ℕ → ℕ) (b v w c : ℕ) → b < B.books → w < B.weekends → c < B.classes → Holed B p f b v → f (node w c) ≤ 120

@@ -3,16 +3,15 @@ use Rattle.std.proofs.Common.{◌≡◌, ℕ, zero, suc, ◌+◌, ◌-◌, ◌*�
 use Rattle.std.proofs.lemmas.Bool.{cases_eq, eq-eqb, ne_eqb, cond-true, cond-false}
 use Rattle.amounts.specs.Kind.{Kind, Lawful, law_limit, AtMost}
 use Rattle.amounts.proofs.Sums.{sum_same}
-use Rattle.amounts.proofs.Solve.{var, ◌⊕◌, solve}
+use Rattle.amounts.proofs.Solve.{var, ◌⊕◌, linear_equal}
 use Rattle.solver.specs.declared.arcs.Arc.{Arc}
 use Rattle.solver.specs.declared.arcs.Arc.TheVariants.{Rise, Fall, Move}
 use Rattle.plans.specs.Problem.{Problem}
-use Rattle.solver.specs.Residual.{node, above, Charges, Counts, Inside, quoted, LightLabels, Fits, Valid, whole}
+use Rattle.solver.specs.Residual.{node, above, Charges, Counts, ButFor, Inside, quoted, LightLabels, Fits, Valid, whole}
 use Rattle.solver.specs.Walk.{other_quotes, charged, spent, Reached, Walking}
-use Rattle.solver.proofs.Hole.{hole}
 use Rattle.solver.proofs.Optimal.{quoted_light}
 use Rattle.solver.proofs.Walk.{step_up, step_down, step_move, step_end, down_room, apart}
-use Rattle.solver.proofs.Spent.{spent_up, spent_down, spent_move, spent_whole, quotes_light, charged_light}
+use Rattle.solver.proofs.Spent.{spent_up, spent_down, spent_move, spent_whole, walked_few, quotes_light, charged_light}
 
 -- a function changed in one place
 abbrev pub put : {S : Type 0} → (ℕ → S) → ℕ → S → ℕ → S
@@ -27,12 +26,8 @@ put_there f n x i d = cond-false (eqb i n) x (f i) (ne_eqb i n d)
 -- a sum put together anew
 regroup : {V : Type 0} {K : Kind V} (L : Lawful K) (s t q p g n x y : V) → 6 * (K.weight s + K.weight t + K.weight g + K.weight n + K.weight x + K.weight y) ≤ law_limit → q ≡ K.plus s x → p ≡ K.plus t y → K.plus s g ≡ K.plus t n →
     K.plus (K.plus q g) y ≡ K.plus (K.plus p n) x
-regroup {K = K} L s t q p g n x y h a b e =
-    ap (λ u. K.plus (K.plus u g) y) a
-    ∙ solve L (s ∷ x ∷ g ∷ y ∷ []) (((var 0 ⊕ var 1) ⊕ var 2) ⊕ var 3) ((var 0 ⊕ var 2) ⊕ (var 1 ⊕ var 3)) (omega arith) (omega arith) refl
-    ∙ ap (λ u. K.plus u (K.plus x y)) e
-    ∙ solve L (t ∷ n ∷ x ∷ y ∷ []) ((var 0 ⊕ var 1) ⊕ (var 2 ⊕ var 3)) (((var 0 ⊕ var 3) ⊕ var 1) ⊕ var 2) (omega arith) (omega arith) refl
-    ∙ ap (λ u. K.plus (K.plus u n) x) (sym b)
+regroup L s t q p g n x y h a b e =
+    rw (a, b) (linear_equal L (s ∷ t ∷ g ∷ n ∷ x ∷ y ∷ []) ((var 0 ⊕ var 2, var 1 ⊕ var 3) ∷ []) (((var 0 ⊕ var 4) ⊕ var 2) ⊕ var 5) (((var 1 ⊕ var 5) ⊕ var 3) ⊕ var 4) (e, tt) (omega arith) refl)
 
 module _ {V : Type 0} {K : Kind V} (L : Lawful K) (B : Problem V) (X : Charges V) (fits : Fits K B X) (word : ℕ → ℕ → Bool) (k : ℕ) (into : ℕ → Bool) (begin : ℕ → V) (b : ℕ) (lb : b < B.books) (l : ℕ → V) (light : LightLabels K B l) (rank : ℕ → ℕ) (via : ℕ → Option Arc) where
   abbrev Walks : (ℕ → ℕ) → (ℕ → ℕ) → ℕ → Type 0
@@ -73,7 +68,7 @@ module _ {V : Type 0} {K : Kind V} (L : Lawful K) (B : Problem V) (X : Charges V
       go next (Some (Move j₀ x)) t =
           let q = put p j₀ x in
           let e = put_here p j₀ x in
-          let o : (j : ℕ) → j < B.books → (j ≡ j₀ → ⊥) → q j ≡ p j = λ j _ d. put_there p j₀ x j d in
+          let o : ButFor B j₀ p q = λ j _ d. put_there p j₀ x j d in
           let j = step_move L B X fits word k into begin b lb l light rank via p q f v j₀ x t.0.0 t.0.1 t.0.2 t.1 t.2 t.3 e o i in
           let a = apart L B X fits word k into begin b lb l light rank via p q f v j₀ x t.0.0 t.0.1 t.0.2 t.1 t.2 t.3 e o i in
           onward p f q f v (node (p j₀) (B.class j₀)) (spent_move L B X fits word k into begin b lb l light rank via p q f v j₀ x t.0.0 a t.0.1 t.3 e o i j) (next q f (node (p j₀) (B.class j₀)) (omega (arith, t.2)) j)
@@ -92,7 +87,7 @@ module _ {V : Type 0} {K : Kind V} (L : Lawful K) (B : Problem V) (X : Charges V
 
   module _ (p f : ℕ → ℕ) (word' : ℕ → ℕ → Bool) (mate : B.class b ≡ k) (counts : Counts B p f) (i : Walks p f (node (p b) (B.class b)))
       (starts : (x : ℕ) → x < B.weekends → into x ≡ true → AtMost K (l (node x k)) (begin x))
-      (even : (x y : ℕ) → x < B.weekends → y < B.weekends → into x ≡ true → into y ≡ true → K.plus (begin x) (quoted K B b y) ≡ K.plus (begin y) (quoted K B b x)) (begins : (x : ℕ) → x < B.weekends → K.weight (begin x) ≤ 10 ^ 9)
+      (even : (x y : ℕ) → x < B.weekends → y < B.weekends → into x ≡ true → into y ≡ true → K.plus (begin x) (quoted K B b y) ≡ K.plus (begin y) (quoted K B b x)) (begins : (x : ℕ) → x < B.weekends → into x ≡ true → K.weight (begin x) ≤ 10 ^ 9)
       (mine : (x : ℕ) → word' b x ≡ into x) (theirs : (j x : ℕ) → (j ≡ b → ⊥) → word' j x ≡ word j x) where
     quotes_same : (q : ℕ → ℕ) (x : ℕ) → other_quotes K B b (put q b x) ≡ other_quotes K B b q
     unfolding other_quotes
@@ -108,7 +103,7 @@ module _ {V : Type 0} {K : Kind V} (L : Lawful K) (B : Problem V) (X : Charges V
         omega (arith, L.plus_weight (other_quotes K B b q) (charged K B X g) (omega arith))
 
     few : (q g : ℕ → ℕ) (v : ℕ) → Walks q g v → (w c : ℕ) → w < B.weekends → c < B.classes → g (node w c) ≤ 120
-    few q g v j w c lw lc = (hole K B fits.sound).few q g b v w c lb lw lc j.holed
+    few = walked_few L B X fits word k into begin b lb l light rank via
 
     from_landed : Landed p f (node (p b) (B.class b)) → Moved p word'
     unfolding law_limit
@@ -133,7 +128,7 @@ module _ {V : Type 0} {K : Kind V} (L : Lawful K) (B : Problem V) (X : Charges V
           within = end.1;
           valid = end.2;
           costs = regroup L (spent K B X b z.plan g) (spent K B X b p f) (whole K B X q) (whole K B X p) (begin x) (l (node (p b) (B.class b))) (quoted K B b x) (quoted K B b (p b))
-              (omega (arith, s₁, s₂, begins x z.start.1, light (node (p b) (B.class b)), quoted_light L B fits.sound b x lb z.start.1, quoted_light L B fits.sound b (p b) lb (i.sent b lb))) new' old paid;
+              (omega (arith, s₁, s₂, begins x z.start.1 z.start.2, light (node (p b) (B.class b)), quoted_light L B fits.sound b x lb z.start.1, quoted_light L B fits.sound b (p b) lb (i.sent b lb))) new' old paid;
         }
 
     pub moved : Moved p word'

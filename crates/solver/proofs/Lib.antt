@@ -1,5 +1,5 @@
-pub mod Soft
 pub mod Rises
+pub mod Soft
 pub mod Subgradient
 pub mod Optimal
 pub mod Violations
@@ -12,6 +12,7 @@ pub mod Landing
 pub mod Ends
 pub mod Reassign
 pub mod Begin
+pub mod OneClass
 pub mod Stages
 pub mod Above
 pub mod Banks

@@ -10,10 +10,10 @@ use Rattle.solver.specs.declared.arcs.Arc.{Arc}
 use Rattle.solver.specs.declared.arcs.Arc.TheVariants.{Rise, Fall, Move}
 use Rattle.plans.specs.Problem.{Problem}
 use Rattle.solver.specs.Residual.{node, Charges, Live, head, tail, quoted, arc_cost}
-use Rattle.solver.specs.Search.{nodes, Start, Searchable, Before, Reason, Searching, Last}
+use Rattle.solver.specs.Search.{nodes, Searchable, Before, Reason, Searching, Last}
 use Rattle.solver.proofs.Optimal.{quoted_light}
 
-module _ {V : Type 0} {K : Kind V} (L : Lawful K) (B : Problem V) (X : Charges V) (word : ℕ → ℕ → Bool) (origin : ℕ → Bool) (begin : ℕ → V) (p f : ℕ → ℕ) (pot : ℕ → V) (g : Searchable K B X word origin begin p f pot) where
+module _ {V : Type 0} {K : Kind V} (L : Lawful K) (B : Problem V) (X : Charges V) (word : ℕ → ℕ → Bool) (Start : ℕ → V → Type 0) (p f : ℕ → ℕ) (pot : ℕ → V) (g : Searchable K B X word Start p f pot) where
   -- an arc costs little, and the labels before the search are valid for it
   cheap : (a : Arc) → Live B word a → K.weight (arc_cost K B X p f a) ≤ 2 * 10 ^ 9
   unfolding law_limit
@@ -30,11 +30,8 @@ module _ {V : Type 0} {K : Kind V} (L : Lawful K) (B : Problem V) (X : Charges V
   satisfied (Fall w c) h = g.valid.falling w c h.0 h.1
   satisfied (Move j x) h = g.valid.moved j x h.0 h.1 h.2
 
-  start_light : (v : ℕ) (s : V) → Start K B X word origin begin p f pot v s → K.weight s ≤ 10 ^ 9
-  start_light v s h = rw h.2 (g.begins v h.1)
-
   abbrev State : (Arc → Type 0) → ℕ → (ℕ → V) → (ℕ → Bool) → (ℕ → ℕ) → (ℕ → Option Arc) → Type 0
-  State Done t d seen rank via = Searching K B X word origin begin p f pot Done t d seen rank via
+  State Done t d seen rank via = Searching K B X word Start p f pot Done t d seen rank via
 
   module _ (Done : Arc → Type 0) (t : ℕ) (d : ℕ → V) (seen : ℕ → Bool) (rank : ℕ → ℕ) (via : ℕ → Option Arc) (i : State Done t d seen rank via) where
     few : t ≤ nodes
@@ -49,7 +46,7 @@ module _ {V : Type 0} {K : Kind V} (L : Lawful K) (B : Problem V) (X : Charges V
     fewer Less h = record { counted = i.counted; ranked = i.ranked; order = i.order; done = λ a l. i.done a (h a l); reason = i.reason; starts = i.starts; settled_light = i.settled_light; light = i.light }
 
     -- ---- settle u
-    module _ (u : ℕ) (lu : u < nodes) (su : seen u ≡ true) (open' : nodes ≤ rank u) (least : (v : ℕ) → seen v ≡ true → nodes ≤ rank v → Before K B X word origin begin p f pot d u v)
+    module _ (u : ℕ) (lu : u < nodes) (su : seen u ≡ true) (open' : nodes ≤ rank u) (least : (v : ℕ) → seen v ≡ true → nodes ≤ rank v → Before K B X word Start p f pot d u v)
         (rank' : ℕ → ℕ) (mine : rank' u ≡ t) (others : (v : ℕ) → (v ≡ u → ⊥) → rank' v ≡ rank v) where
       pub settle_room : t < nodes
       settle_room = omega (arith, i.counted, tally_miss nodes u (λ v. ltb (rank v) nodes) lu (le-ltb (rank u) nodes open'))
@@ -74,7 +71,7 @@ module _ {V : Type 0} {K : Kind V} (L : Lawful K) (B : Problem V) (X : Charges V
       kept_rank : (v : ℕ) → rank v < nodes → rank' v ≡ rank v
       kept_rank v h = others v (λ e. omega (arith, ap rank e))
 
-      settle_reason : (v : ℕ) (o : Option Arc) → Reason K B X word origin begin p f pot d rank v o → Reason K B X word origin begin p f pot d rank' v o
+      settle_reason : (v : ℕ) (o : Option Arc) → Reason K B X word Start p f pot d rank v o → Reason K B X word Start p f pot d rank' v o
       settle_reason v None r = r
       settle_reason v (Some a) r =
           let k = kept_rank (tail B p a) r.2 in
@@ -85,7 +82,7 @@ module _ {V : Type 0} {K : Kind V} (L : Lawful K) (B : Problem V) (X : Charges V
         counted = settle_counted;
         ranked = λ v h. ⊎_elim (λ (e : v ≡ u). (omega (arith, ap rank' e), ap seen e ∙ su)) (λ (n : (v ≡ u → ⊥) × (rank v < nodes)). (omega (arith, others v n.0, (i.ranked v n.1).0), (i.ranked v n.1).1)) (settled_cases v h);
         order = λ y v hy sv hv. let n = still_open v hv in
-            ⊎_elim (λ (e : y ≡ u). subst (λ z. Before K B X word origin begin p f pot d z v) (sym e) (least v sv n.1)) (λ (m : (y ≡ u → ⊥) × (rank y < nodes)). i.order y v m.1 sv n.1) (settled_cases y hy);
+            ⊎_elim (λ (e : y ≡ u). subst (λ z. Before K B X word Start p f pot d z v) (sym e) (least v sv n.1)) (λ (m : (y ≡ u → ⊥) × (rank y < nodes)). i.order y v m.1 sv n.1) (settled_cases y hy);
         done = λ a h. let x = i.done a h in (omega (arith, kept_rank (tail B p a) x.0, x.0), x.1, x.2, x.3);
         reason = λ v sv. settle_reason v (via v) (i.reason v sv);
         starts = i.starts;
@@ -93,8 +90,8 @@ module _ {V : Type 0} {K : Kind V} (L : Lawful K) (B : Problem V) (X : Charges V
         light = λ v. omega (arith, i.light v);
       }
 
-      pub settle_last : Last K B X word origin begin p f pot d rank' u
-      settle_last y hy = ⊎_elim (λ (e : y ≡ u). subst (λ z. Before K B X word origin begin p f pot d z u) (sym e) (inr refl)) (λ (m : (y ≡ u → ⊥) × (rank y < nodes)). i.order y u m.1 su open') (settled_cases y hy)
+      pub settle_last : Last K B X word Start p f pot d rank' u
+      settle_last y hy = ⊎_elim (λ (e : y ≡ u). subst (λ z. Before K B X word Start p f pot d z u) (sym e) (inr refl)) (λ (m : (y ≡ u → ⊥) × (rank y < nodes)). i.order y u m.1 su open') (settled_cases y hy)
 
     -- the arcs that were satisfied, and a
     abbrev More : Arc → Arc → Type 0
@@ -115,7 +112,7 @@ module _ {V : Type 0} {K : Kind V} (L : Lawful K) (B : Problem V) (X : Charges V
       }
 
     -- ---- relax the arc a, out of the node settled last
-    module _ (a : Arc) (la : Live B word a) (hu : rank (tail B p a) < nodes) (last : Last K B X word origin begin p f pot d rank (tail B p a)) where
+    module _ (a : Arc) (la : Live B word a) (hu : rank (tail B p a) < nodes) (last : Last K B X word Start p f pot d rank (tail B p a)) where
       pub offer_light : K.weight (K.plus (d (tail B p a)) (arc_cost K B X p f a)) ≤ 26 * 10 ^ 10 + 2 * 10 ^ 9
       unfolding law_limit
       offer_light =
@@ -169,7 +166,7 @@ module _ {V : Type 0} {K : Kind V} (L : Lawful K) (B : Problem V) (X : Charges V
             let pu = g.light u in
             linear L (d u ∷ d (tail B p a) ∷ arc_cost K B X p f a ∷ pot (head B a) ∷ pot (tail B p a) ∷ pot u ∷ []) ((var 0 ⊕ var 4, var 1 ⊕ var 5) ∷ (var 3, var 4 ⊕ var 2) ∷ []) (var 0 ⊕ var 3) ((var 1 ⊕ var 2) ⊕ var 5) (last u h, (satisfied a la, tt)) (omega arith) refl
 
-        new_order : (u v : ℕ) → rank u < nodes → seen' v ≡ true → nodes ≤ rank v → Before K B X word origin begin p f pot d' u v
+        new_order : (u v : ℕ) → rank u < nodes → seen' v ≡ true → nodes ≤ rank v → Before K B X word Start p f pot d' u v
         new_order u v h sv hv = rw (same_d u (other u h)) (go (cases_eq v (head B a)))
           where
             go : (v ≡ head B a) ⊎ (v ≡ head B a → ⊥) → AtMost K (K.plus (d u) (pot v)) (K.plus (d' v) (pot u))
@@ -195,15 +192,15 @@ module _ {V : Type 0} {K : Kind V} (L : Lawful K) (B : Problem V) (X : Charges V
             )
         new_done e (inr x) = subst (λ e. (rank (tail B p e) < nodes) × (seen' (head B e) ≡ true) × AtMost K (d' (head B e)) (K.plus (d' (tail B p e)) (arc_cost K B X p f e)) × Live B word e) (sym x) (hu, met, rw (same_d (tail B p a) (other (tail B p a) hu)) (inr now), la)
 
-        new_reason : (v : ℕ) → seen' v ≡ true → Reason K B X word origin begin p f pot d' rank v (via' v)
+        new_reason : (v : ℕ) → seen' v ≡ true → Reason K B X word Start p f pot d' rank v (via' v)
         new_reason v sv = go (cases_eq v (head B a))
           where
-            kept : (v ≡ head B a → ⊥) → (o : Option Arc) → Reason K B X word origin begin p f pot d rank v o → Reason K B X word origin begin p f pot d' rank v o
+            kept : (v ≡ head B a → ⊥) → (o : Option Arc) → Reason K B X word Start p f pot d rank v o → Reason K B X word Start p f pot d' rank v o
             kept n None r = rw (same_d v n) r
             kept n (Some e) r = (r.0, r.1, r.2, r.3, rw (same_d v n, same_d (tail B p e) (other (tail B p e) r.2)) r.4)
 
-            go : (v ≡ head B a) ⊎ (v ≡ head B a → ⊥) → Reason K B X word origin begin p f pot d' rank v (via' v)
-            go (inl e) = subst (λ v. Reason K B X word origin begin p f pot d' rank v (via' v)) (sym e) (rw by' (la, refl, hu, (λ h. absurd (omega arith)), rw (same_d (tail B p a) (other (tail B p a) hu)) now))
+            go : (v ≡ head B a) ⊎ (v ≡ head B a → ⊥) → Reason K B X word Start p f pot d' rank v (via' v)
+            go (inl e) = subst (λ v. Reason K B X word Start p f pot d' rank v (via' v)) (sym e) (rw by' (la, refl, hu, (λ h. absurd (omega arith)), rw (same_d (tail B p a) (other (tail B p a) hu)) now))
             go (inr n) = rw (same_via v n) (kept n (via v) (i.reason v (sym (same_seen v n) ∙ sv)))
 
         pub relax : State (More a) t d' seen' rank via'
@@ -214,10 +211,10 @@ module _ {V : Type 0} {K : Kind V} (L : Lawful K) (B : Problem V) (X : Charges V
           order = new_order;
           done = new_done;
           reason = new_reason;
-          starts = λ v s h. let x = i.starts v s h in (grown v x.0, at_most_trans L (d' v) (d v) s (omega (arith, heavy_enough v, all_light v, start_light v s h)) (fallen v x.0) x.1);
+          starts = λ v s h. let x = i.starts v s h in (grown v x.0, at_most_trans L (d' v) (d v) s (omega (arith, heavy_enough v, all_light v, g.begins v s h)) (fallen v x.0) x.1);
           settled_light = λ v h. omega (arith, ap K.weight (same_d v (other v h)), i.settled_light v h);
           light = new_light;
         }
 
-        pub relax_last : Last K B X word origin begin p f pot d' rank (tail B p a)
+        pub relax_last : Last K B X word Start p f pot d' rank (tail B p a)
         relax_last y h = rw (same_d y (other y h), same_d (tail B p a) (other (tail B p a) hu)) (last y h)

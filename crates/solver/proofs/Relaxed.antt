@@ -14,7 +14,7 @@ use Rattle.solver.specs.declared.state.State.{State}
 use Rattle.solver.specs.declared.trail.Trail.{Trail}
 use Rattle.solver.specs.Soft.{soft_kind, softened}
 use Rattle.solver.specs.Residual.{Live, head, tail}
-use Rattle.solver.specs.Search.{nodes, stage, Last}
+use Rattle.solver.specs.Search.{nodes, stage, FromOrigins, Last}
 use Rattle.solver.specs.Flows.{soft_charges, Taking, Next, SearchKept}
 use Rattle.solver.specs.Held.{label, Memory, memory, old_of, new_of, seen_of, rank_of, via_of, takes, Kept, SameAt, Offered, word_at, SearchableIn, TakingIn, offer_in, Relaxes}
 use Rattle.solver.proofs.Soft.{soft_lawful}
@@ -30,16 +30,16 @@ module _ {V : Type 0} {K : Kind V} (L : Lawful K) (B : Problem V) (state : State
 
   -- the ranks are the same
   taking_ranks : (origin : ℕ → Bool) (begin pot : ℕ → Ranked Money V) (m m' : Memory V) (t u s : ℕ) → m'.trail.ranks ≡ m.trail.ranks →
-      Taking (soft_kind K) (softened B) (soft_charges K B) (word_at state.words) origin begin (at state.sent) (at state.counts) pot t (new_of K m') (seen_of m') (rank_of m) (via_of m') u s → TakingIn K B state origin begin pot m' t u s
+      Taking (soft_kind K) (softened B) (soft_charges K B) (word_at state.words) (FromOrigins origin begin) (at state.sent) (at state.counts) pot t (new_of K m') (seen_of m') (rank_of m) (via_of m') u s → TakingIn K B state origin begin pot m' t u s
   taking_ranks origin begin pot m m' t u s r h =
-      subst (λ r. Taking (soft_kind K) (softened B) (soft_charges K B) (word_at state.words) origin begin (at state.sent) (at state.counts) pot t (new_of K m') (seen_of m') (λ v. get_or r v nodes) (via_of m') u s) (sym r) h
+      subst (λ r. Taking (soft_kind K) (softened B) (soft_charges K B) (word_at state.words) (FromOrigins origin begin) (at state.sent) (at state.counts) pot t (new_of K m') (seen_of m') (λ v. get_or r v nodes) (via_of m') u s) (sym r) h
 
   -- what is known of the nodes is the same, so the search is where it was
   taking_same : (origin : ℕ → Bool) (begin pot : ℕ → Ranked Money V) (m m' : Memory V) (t u s : ℕ) → new_of K m' ≡ new_of K m → seen_of m' ≡ seen_of m → via_of m' ≡ via_of m → m'.trail.ranks ≡ m.trail.ranks →
       TakingIn K B state origin begin pot m t u s → TakingIn K B state origin begin pot m' t u s
   taking_same origin begin pot m m' t u s d e v r h =
       let T : (ℕ → Ranked Money V) → (ℕ → Bool) → (ℕ → ℕ) → (ℕ → Option Arc) → Type 0 =
-      λ d seen rank via. Taking (soft_kind K) (softened B) (soft_charges K B) (word_at state.words) origin begin (at state.sent) (at state.counts) pot t d seen rank via u s in
+      λ d seen rank via. Taking (soft_kind K) (softened B) (soft_charges K B) (word_at state.words) (FromOrigins origin begin) (at state.sent) (at state.counts) pot t d seen rank via u s in
       let h₁ = subst (λ d. T d (seen_of m) (rank_of m) (via_of m)) (sym d) h in
       let h₂ = subst (λ e. T (new_of K m') e (rank_of m) (via_of m)) (sym e) h₁ in
       taking_ranks origin begin pot m m' t u s r (subst (λ v. T (new_of K m') (seen_of m') (rank_of m) v) (sym v) h₂)
@@ -73,11 +73,11 @@ module _ {V : Type 0} {K : Kind V} (L : Lawful K) (B : Problem V) (state : State
     x₀ = offer_in K B state m a
 
     module _ (origin : ℕ → Bool) (begin : ℕ → Ranked Money V) (t : ℕ) (g : SearchableIn K B state origin begin (old_of K m)) (h : TakingIn K B state origin begin (old_of K m) m t u s) where
-      next : Next K' (softened B) (soft_charges K B) (word_at state.words) origin begin (at state.sent) (at state.counts) (old_of K m) u s a
+      next : Next K' (softened B) (soft_charges K B) (word_at state.words) (FromOrigins origin begin) (at state.sent) (at state.counts) (old_of K m) u s a
       unfolding K'
       next = record { live = live; from = from; at = at' }
 
-      steps : SearchKept K' (softened B) (soft_charges K B) (word_at state.words) origin begin (at state.sent) (at state.counts) (old_of K m)
+      steps : SearchKept K' (softened B) (soft_charges K B) (word_at state.words) (FromOrigins origin begin) (at state.sent) (at state.counts) (old_of K m)
       unfolding K'
       steps = search_steps (soft_lawful L) (softened B) (soft_charges K B) (word_at state.words) origin begin (at state.sent) (at state.counts) (old_of K m) g
 
@@ -99,11 +99,11 @@ module _ {V : Type 0} {K : Kind V} (L : Lawful K) (B : Problem V) (state : State
       light : K'.weight x₀ + K'.weight (new_of K m v₀) ≤ law_limit
       unfolding law_limit K' v₀ x₀
       light =
-          let last = subst (Last K' (softened B) (soft_charges K B) (word_at state.words) origin begin (at state.sent) (at state.counts) (old_of K m) (new_of K m) (rank_of m)) (sym from) h.last in
+          let last = subst (Last K' (softened B) (soft_charges K B) (word_at state.words) (FromOrigins origin begin) (at state.sent) (at state.counts) (old_of K m) (new_of K m) (rank_of m)) (sym from) h.last in
           omega (
             arith,
-            offer_light (soft_lawful L) (softened B) (soft_charges K B) (word_at state.words) origin begin (at state.sent) (at state.counts) (old_of K m) g _ t (new_of K m) (seen_of m) (rank_of m) (via_of m) h.searching a live hu last,
-            all_light (soft_lawful L) (softened B) (soft_charges K B) (word_at state.words) origin begin (at state.sent) (at state.counts) (old_of K m) g _ t (new_of K m) (seen_of m) (rank_of m) (via_of m) h.searching v₀,
+            offer_light (soft_lawful L) (softened B) (soft_charges K B) (word_at state.words) (FromOrigins origin begin) (at state.sent) (at state.counts) (old_of K m) g _ t (new_of K m) (seen_of m) (rank_of m) (via_of m) h.searching a live hu last,
+            all_light (soft_lawful L) (softened B) (soft_charges K B) (word_at state.words) (FromOrigins origin begin) (at state.sent) (at state.counts) (old_of K m) g _ t (new_of K m) (seen_of m) (rank_of m) (via_of m) h.searching v₀,
           )
 
       lowers : nodes ≤ rank_of m v₀ → takes K m v₀ x₀ ≡ true → (seen_of m v₀ ≡ true → AtMost K' x₀ (new_of K m v₀)) → TakingIn K B state origin begin (old_of K m) m' t u (suc s)

@@ -12,14 +12,14 @@ use Rattle.plans.specs.Theorems.{Sound}
 use Rattle.solver.specs.declared.arcs.Arc.{Arc}
 use Rattle.solver.specs.declared.state.State.{State}
 use Rattle.solver.specs.Soft.{soft_kind, softened}
-use Rattle.solver.specs.Residual.{node, quoted, moving, Counts, Inside}
+use Rattle.solver.specs.Residual.{node, quoted, moving, Counts}
 use Rattle.solver.specs.Search.{nodes}
 use Rattle.solver.specs.Flows.{Straight, Shown, soft_charges}
 use Rattle.solver.specs.Held.{Memory, old_of, new_of, seen_of, rank_of, via_of, word_at, SearchableIn, Searches, ShownIn, Walkable}
 use Rattle.solver.specs.Reassigning.{Started, Stays}
 use Rattle.solver.proofs.Soft.{soft_lawful}
 use Rattle.solver.proofs.Optimal.{quoted_light}
-use Rattle.solver.proofs.Violations.{softened_sound}
+use Rattle.solver.proofs.Violations.{inside_soft, softened_sound}
 use Rattle.solver.proofs.Begin.{soft_fits}
 use Rattle.solver.proofs.Reassign.{search_ends, walk_begins}
 
@@ -31,9 +31,6 @@ word_there : (words : List ℕ) (b into j x : ℕ) → (j ≡ b → ⊥) → wor
 word_there words b into j x d = ap (λ w. bit_at w x) (get_or-set_other words b j into 0 d)
 
 module _ {V : Type 0} {K : Kind V} (L : Lawful K) (B : Problem V) (s : Sound K B) where
-  inside_soft : (word : ℕ → ℕ → Bool) (p : ℕ → ℕ) → Inside B word p → Inside (softened B) word p
-  inside_soft word p i = record { sent = i.sent; meets = i.meets }
-
   counts_soft : (p f : ℕ → ℕ) → Counts B p f → Counts (softened B) p f
   unfolding count member
   counts_soft p f c = c
@@ -69,7 +66,7 @@ module _ {V : Type 0} {K : Kind V} (L : Lawful K) (B : Problem V) (s : Sound K B
 
   -- a search may be made where the labels show the state least
   searchable : Straight K B → (state : State) (origin : ℕ → Bool) (begin l : ℕ → Ranked Money V) → ShownIn K B state l → ((v : ℕ) → (soft_kind K).weight (begin v) ≤ 10 ^ 9) → SearchableIn K B state origin begin l
-  searchable straight state origin begin l shown light = record { fits = soft_fits L B s straight; sent = shown.inside.sent; valid = shown.valid; light = shown.light; begins = λ v _. light v }
+  searchable straight state origin begin l shown light = record { fits = soft_fits L B s straight; sent = shown.inside.sent; valid = shown.valid; light = shown.light; begins = λ v s h. rw h.2 (light v) }
 
   -- the book's search has ended: it may be taken back
   pub walkable : Straight K B → (state : State) (m₀ m₁ m₂ : Memory V) (b into x₀ : ℕ) → b < B.books → x₀ < B.weekends → bit_at into x₀ ≡ true → ShownIn K B state (old_of K m₀) → Started K B m₀ m₁ b into → Searches K B state m₁ m₂ → Walkable K B state m₂ b into
@@ -83,7 +80,7 @@ module _ {V : Type 0} {K : Kind V} (L : Lawful K) (B : Problem V) (s : Sound K B
         book = lb;
         fits = soft_fits L B s straight;
         ended = walk_begins (soft_lawful L) (softened B) (soft_charges K B) (word_at state.words) b (seen_of m₁) (bit_at into) (new_of K m₁) (quoted (soft_kind K) (softened B) b) (at state.sent) (at state.counts) (old_of K m₁) lb
-            (inside_soft (word_at state.words) (at state.sent) shown.inside) (counts_soft (at state.sent) (at state.counts) shown.counts) g st.starts x₀ lx ix e.0 (new_of K m₂) (seen_of m₂) (rank_of m₂) (via_of m₂) e.1 e.2;
+            (inside_soft B (word_at state.words) (at state.sent) shown.inside) (counts_soft (at state.sent) (at state.counts) shown.counts) g st.starts x₀ lx ix e.0 (new_of K m₂) (seen_of m₂) (rank_of m₂) (via_of m₂) e.1 e.2;
       }
 
   -- a search from all nodes has ended: its labels show the state least, and are at most zero

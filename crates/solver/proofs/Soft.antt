@@ -1,14 +1,15 @@
 -- The prices of soft bounds are convex. Assumes nothing.
-use Rattle.std.proofs.Common.{◌≡◌, ℕ, suc, ◌*◌, ◌<◌, ◌≤◌, cond, leb, sym, refl, ◌∙◌, subst, inl, inr, ⊎_elim, mul-le-mul_right, arith}
-use Rattle.std.proofs.lemmas.Bool.{cases_lt, lt-ltb, le-ltb, le-leb, lt-leb, cond_both}
+use Rattle.std.proofs.Common.{◌≡◌, ℕ, suc, ◌*◌, ◌<◌, ◌≤◌, leb, sym, refl, subst, inl, inr, ⊎_elim, mul-le-mul_right, arith}
+use Rattle.std.proofs.lemmas.Bool.{cases_lt, le-leb, cond_both}
 use Rattle.amounts.specs.Kind.{Kind, Lawful, law_limit, AtMost}
 use Rattle.amounts.specs.Sums.{copies}
-use Rattle.amounts.proofs.Order.{at_most_trans, plus_at_most_right, plus_minus, minus_minus, minus_none}
+use Rattle.amounts.proofs.Order.{at_most_trans, plus_minus, minus_minus, minus_none, minus_at_most}
 use Rattle.amounts.proofs.Copies.{copies_weight}
 use Rattle.amounts.specs.MoneyLaws.{money_lawful}
 use Rattle.amounts.specs.RankedLaws.{ranked_lawful}
 use Rattle.solver.specs.Soft.{broken, fine, rise, fall, soft_kind, violation, Convex}
 use Rattle.solver.specs.Flows.{SoftConvex}
+use Rattle.solver.proofs.Rises.{rise_under, rise_inside, rise_over, fall_under, fall_inside, fall_over}
 
 module _ {V : Type 0} {K : Kind V} (L : Lawful K) where
   open K use {none, plus, minus, weight}
@@ -21,9 +22,8 @@ module _ {V : Type 0} {K : Kind V} (L : Lawful K) where
       over : upper ≤ m → rise K one lower upper m ≡ one → Place m
 
     place : (m : ℕ) → Place m
-    unfolding rise
-    place m = ⊎_elim (λ (h : m < lower). under h (rw (lt-ltb m lower h) refl))
-        (λ (h : lower ≤ m). ⊎_elim (λ (g : m < upper). inside h g (rw (le-ltb m lower h, lt-ltb m upper g) refl)) (λ (g : upper ≤ m). over g (rw (le-ltb m lower h, le-ltb m upper g) refl)) (cases_lt m upper))
+    place m = ⊎_elim (λ (h : m < lower). under h (rise_under K one lower upper m h))
+        (λ (h : lower ≤ m). ⊎_elim (λ (g : m < upper). inside h g (rise_inside K one lower upper m h g)) (λ (g : upper ≤ m). over g (rise_over K one lower upper m h g)) (cases_lt m upper))
         (cases_lt m lower)
 
     light : weight one ≤ suc top * weight one
@@ -51,23 +51,18 @@ module _ {V : Type 0} {K : Kind V} (L : Lawful K) where
             rw (a, e) refl
 
     backs : (m : ℕ) → fall K one lower upper (suc m) ≡ minus (rise K one lower upper m)
-    unfolding fall
     backs m = go (place m)
       where
-        go : Place m → cond (leb (suc m) lower) one (cond (leb (suc m) upper) none (minus one)) ≡ minus (rise K one lower upper m)
-        go (under h e) = let o = light in rw (le-leb (suc m) lower h, e) (sym (minus_minus L one (omega arith)))
-        go (inside h g e) = rw (lt-leb (suc m) lower (omega arith), le-leb (suc m) upper g, e) (sym (minus_none L))
-        go (over h e) = rw (lt-leb (suc m) lower (omega arith), lt-leb (suc m) upper (omega arith), e) refl
+        go : Place m → fall K one lower upper (suc m) ≡ minus (rise K one lower upper m)
+        go (under h e) = let o = light in rw (fall_under K one lower upper (suc m) h, e) (sym (minus_minus L one (omega arith)))
+        go (inside h g e) = rw (fall_inside K one lower upper (suc m) (omega arith) g, e) (sym (minus_none L))
+        go (over h e) = rw (fall_over K one lower upper (suc m) (omega arith) (omega arith), e) refl
 
     below_none : AtMost K (minus one) none
-    below_none =
-        let o = light in
-        let n = L.none_weight in
-        let m = L.minus_weight one (omega arith) in
-        let a = plus_at_most_right L none one (minus one) (omega arith) positive in
-        let p = L.unit (minus one) (omega arith) in
-        let q : plus (minus one) one ≡ none = L.comm (minus one) one (omega arith) ∙ L.inverse one (omega arith) in
-        rw (p, q) at a
+    below_none = let o = light in rw (minus_none L) at (minus_at_most L none one (omega (arith, L.none_weight)) positive)
+
+    below_one : AtMost K (minus one) one
+    below_one = let o = light in at_most_trans L (minus one) none one (omega (arith, L.none_weight, L.minus_weight one (omega arith))) below_none positive
 
     grow : (m : ℕ) → AtMost K (rise K one lower upper m) (rise K one lower upper (suc m))
     grow m = go (place m) (place (suc m))
@@ -75,9 +70,7 @@ module _ {V : Type 0} {K : Kind V} (L : Lawful K) where
         go : Place m → Place (suc m) → AtMost K (rise K one lower upper m) (rise K one lower upper (suc m))
         go (under h e) (under k d) = rw (e, d) (inr refl)
         go (under h e) (inside k j d) = rw (e, d) below_none
-        go (under h e) (over k d) =
-            let o = light in
-            rw (e, d) (at_most_trans L (minus one) none one (omega (arith, L.none_weight, L.minus_weight one (omega arith))) below_none positive)
+        go (under h e) (over k d) = rw (e, d) below_one
         go (inside h g e) (under k d) = absurd (omega arith)
         go (inside h g e) (inside k j d) = rw (e, d) (inr refl)
         go (inside h g e) (over k d) = rw (e, d) positive
@@ -96,10 +89,8 @@ module _ {V : Type 0} {K : Kind V} (L : Lawful K) where
     firsts : AtMost K (fall K one lower upper 1) (fall K one lower upper 0)
     unfolding fall
     firsts =
-        let o = light in
-        let under_one : AtMost K (minus one) one = at_most_trans L (minus one) none one (omega (arith, L.none_weight, L.minus_weight one (omega arith))) below_none positive in
         rw (le-leb 0 lower (omega arith))
-        (cond_both (leb 1 lower) one _ (λ x. AtMost K x one) (λ _. inr refl) (λ _. cond_both (leb 1 upper) none (minus one) (λ x. AtMost K x one) (λ _. positive) (λ _. under_one)))
+        (cond_both (leb 1 lower) one _ (λ x. AtMost K x one) (λ _. inr refl) (λ _. cond_both (leb 1 upper) none (minus one) (λ x. AtMost K x one) (λ _. positive) (λ _. below_one)))
 
     fall_weight : (m : ℕ) → weight (fall K one lower upper m) ≤ suc top * weight one
     unfolding fall

@@ -11,7 +11,7 @@ use Rattle.plans.specs.Places.{at}
 use Rattle.plans.specs.Problem.{Problem}
 use Rattle.solver.specs.declared.state.State.{State}
 use Rattle.solver.specs.Soft.{soft_kind, softened}
-use Rattle.solver.specs.Search.{nodes, stages, Before}
+use Rattle.solver.specs.Search.{nodes, stages, FromOrigins, Before}
 use Rattle.solver.specs.Flows.{soft_charges, SearchKept}
 use Rattle.solver.specs.Held.{Memory, memory, old_of, new_of, seen_of, rank_of, via_of, open_of, key_of, NoneOpen, NearestOpen, word_at, SearchableIn, TakingIn, SeeksIn, Relaxes, Searches}
 use Rattle.solver.proofs.Soft.{soft_lawful}
@@ -33,7 +33,7 @@ module _ {V : Type 0} {K : Kind V} (L : Lawful K) (B : Problem V) (state : State
   seen_within : (m : Memory V) → length m.trail.seen ≡ 129 → (v : ℕ) → seen_of m v ≡ true → v < nodes
   seen_within m len v s = ⊎_elim (λ (l : v < nodes). l) (λ (l : nodes ≤ v). absurd (both_ways (seen_of m v) (get_or_past m.trail.seen v false (omega arith)) s)) (cases_lt v nodes)
 
-  steps : (m : Memory V) (origin : ℕ → Bool) (begin pot : ℕ → Ranked Money V) → SearchableIn K B state origin begin pot → SearchKept (soft_kind K) (softened B) (soft_charges K B) (word_at state.words) origin begin (at state.sent) (at state.counts) pot
+  steps : (m : Memory V) (origin : ℕ → Bool) (begin pot : ℕ → Ranked Money V) → SearchableIn K B state origin begin pot → SearchKept (soft_kind K) (softened B) (soft_charges K B) (word_at state.words) (FromOrigins origin begin) (at state.sent) (at state.counts) pot
   steps m origin begin pot g = search_steps (soft_lawful L) (softened B) (soft_charges K B) (word_at state.words) origin begin (at state.sent) (at state.counts) pot g
 
   pub sought_begin : (m : Memory V) → length m.trail.seen ≡ 129 → Sought m m 0
@@ -59,12 +59,12 @@ module _ {V : Type 0} {K : Kind V} (L : Lawful K) (B : Problem V) (state : State
       s = i.seeks g late new light
 
       light_new : (v : ℕ) → (soft_kind K).weight (new_of K m v) ≤ 26 * 10 ^ 10
-      light_new = all_light (soft_lawful L) (softened B) (soft_charges K B) (word_at state.words) (seen_of m₀) (new_of K m₀) (at state.sent) (at state.counts) (old_of K m₀) g _ t (new_of K m) (seen_of m) (rank_of m) (via_of m) s
+      light_new = all_light (soft_lawful L) (softened B) (soft_charges K B) (word_at state.words) (FromOrigins (seen_of m₀) (new_of K m₀)) (at state.sent) (at state.counts) (old_of K m₀) g _ t (new_of K m) (seen_of m) (rank_of m) (via_of m) s
 
       light_old : (v : ℕ) → (soft_kind K).weight (old_of K m v) ≤ 26 * 10 ^ 10
       light_old v = subst (λ l. (soft_kind K).weight (l v) ≤ 26 * 10 ^ 10) (sym i.old) (g.light v)
 
-      least : (v : ℕ) → seen_of m v ≡ true → nodes ≤ rank_of m v → Before (soft_kind K) (softened B) (soft_charges K B) (word_at state.words) (seen_of m₀) (new_of K m₀) (at state.sent) (at state.counts) (old_of K m₀) (new_of K m) u v
+      least : (v : ℕ) → seen_of m v ≡ true → nodes ≤ rank_of m v → Before (soft_kind K) (softened B) (soft_charges K B) (word_at state.words) (FromOrigins (seen_of m₀) (new_of K m₀)) (at state.sent) (at state.counts) (old_of K m₀) (new_of K m) u v
       least v sv rv =
           let b = before m (seen_of m₀) (new_of K m₀) light_new light_old u v (n.least light_old light_new v (seen_within m len_seen v sv) (and_from _ _ sv (le-leb nodes (rank_of m v) rv))) in
           subst (λ l. AtMost (soft_kind K) ((soft_kind K).plus (new_of K m u) (l v)) ((soft_kind K).plus (new_of K m v) (l u))) i.old b

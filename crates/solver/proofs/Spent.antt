@@ -9,7 +9,7 @@ use Rattle.amounts.proofs.Tables.{weighs_le, table_weight, table_same, table_set
 use Rattle.amounts.proofs.Solve.{var, ◌⊕◌, ⊖, solve}
 use Rattle.solver.specs.declared.arcs.Arc.{Arc}
 use Rattle.plans.specs.Problem.{Problem, count, total}
-use Rattle.solver.specs.Residual.{node, above, Charges, Counts, quoted, moving, LightLabels, Fits, whole}
+use Rattle.solver.specs.Residual.{node, above, Charges, Counts, ButFor, ButAt, quoted, moving, LightLabels, Fits, whole}
 use Rattle.solver.specs.Walk.{other_quotes, charged, spent, Walking}
 use Rattle.solver.proofs.Hole.{hole}
 use Rattle.solver.proofs.Optimal.{quoted_light}
@@ -21,6 +21,10 @@ module _ {V : Type 0} {K : Kind V} (L : Lawful K) (B : Problem V) (X : Charges V
   abbrev pub Few : (ℕ → ℕ) → Type 0
   Few f = (w c : ℕ) → w < B.weekends → c < B.classes → f (node w c) ≤ 120
 
+  -- while the walk goes on, no count passes the number of books
+  pub walked_few : (p f : ℕ → ℕ) (v : ℕ) → Walks p f v → Few f
+  walked_few p f v i w c lw lc = (hole K B fits.sound).few p f b v w c lb lw lc i.holed
+
   pub charged_light : (f : ℕ → ℕ) → Few f → K.weight (charged K B X f) ≤ 128 * 10 ^ 13
   unfolding law_limit charged
   charged_light f few =
@@ -29,7 +33,7 @@ module _ {V : Type 0} {K : Kind V} (L : Lawful K) (B : Problem V) (X : Charges V
       omega (arith, table_weight L B.weekends B.classes (λ w c. X.price w c (f (node w c))) (omega arith))
 
   -- one count more: its rise is charged
-  charged_more : (f g : ℕ → ℕ) (w₀ c₀ : ℕ) → w₀ < B.weekends → c₀ < B.classes → Few f → Few g → g (node w₀ c₀) ≡ suc (f (node w₀ c₀)) → ((v : ℕ) → (v ≡ node w₀ c₀ → ⊥) → g v ≡ f v) →
+  charged_more : (f g : ℕ → ℕ) (w₀ c₀ : ℕ) → w₀ < B.weekends → c₀ < B.classes → Few f → Few g → g (node w₀ c₀) ≡ suc (f (node w₀ c₀)) → ButAt (node w₀ c₀) f g →
       charged K B X g ≡ K.plus (charged K B X f) (X.rise w₀ c₀ (f (node w₀ c₀)))
   unfolding law_limit charged
   charged_more f g w₀ c₀ lw lc ff fg e o =
@@ -70,7 +74,7 @@ module _ {V : Type 0} {K : Kind V} (L : Lawful K) (B : Problem V) (X : Charges V
   quotes_light p sent = let w = quotes_weigh p sent in omega (arith, sum_weight L B.books (λ j. cond (eqb j b) K.none (quoted K B j (p j))) (omega arith))
 
   -- another book moved: the difference of its quotes
-  quotes_moved : (p q : ℕ → ℕ) (j₀ : ℕ) → j₀ < B.books → (j₀ ≡ b → ⊥) → ((j : ℕ) → j < B.books → p j < B.weekends) → ((j : ℕ) → j < B.books → q j < B.weekends) → ((j : ℕ) → j < B.books → (j ≡ j₀ → ⊥) → q j ≡ p j) →
+  quotes_moved : (p q : ℕ → ℕ) (j₀ : ℕ) → j₀ < B.books → (j₀ ≡ b → ⊥) → ((j : ℕ) → j < B.books → p j < B.weekends) → ((j : ℕ) → j < B.books → q j < B.weekends) → ButFor B j₀ p q →
       K.plus (other_quotes K B b q) (quoted K B j₀ (p j₀)) ≡ K.plus (other_quotes K B b p) (quoted K B j₀ (q j₀))
   unfolding law_limit other_quotes
   quotes_moved p q j₀ lj n sp sq o =
@@ -98,13 +102,13 @@ module _ {V : Type 0} {K : Kind V} (L : Lawful K) (B : Problem V) (X : Charges V
 
   -- ---- what is spent and the label at the hole add up to the same at every step
   module _ (p f g : ℕ → ℕ) (v w₀ c₀ : ℕ) (lw : w₀ < B.weekends) (lc : c₀ < B.classes) (at : v ≡ above B.parent w₀ c₀)
-      (tight : l v ≡ K.plus (l (node w₀ c₀)) (X.rise w₀ c₀ (f (node w₀ c₀)))) (changed : g (node w₀ c₀) ≡ suc (f (node w₀ c₀))) (others : (u : ℕ) → (u ≡ node w₀ c₀ → ⊥) → g u ≡ f u) (i : Walks p f v) (j : Walks p g (node w₀ c₀)) where
+      (tight : l v ≡ K.plus (l (node w₀ c₀)) (X.rise w₀ c₀ (f (node w₀ c₀)))) (changed : g (node w₀ c₀) ≡ suc (f (node w₀ c₀))) (others : ButAt (node w₀ c₀) f g) (i : Walks p f v) (j : Walks p g (node w₀ c₀)) where
     pub spent_up : K.plus (spent K B X b p g) (l (node w₀ c₀)) ≡ K.plus (spent K B X b p f) (l v)
     unfolding law_limit
     spent_up =
         let q = quotes_light p i.sent in
-        let few : (w c : ℕ) → w < B.weekends → c < B.classes → f (node w c) ≤ 120 = λ w c hw hc. (hole K B fits.sound).few p f b v w c lb hw hc i.holed in
-        let few' : (w c : ℕ) → w < B.weekends → c < B.classes → g (node w c) ≤ 120 = λ w c hw hc. (hole K B fits.sound).few p g b (node w₀ c₀) w c lb hw hc j.holed in
+        let few = walked_few p f v i in
+        let few' = walked_few p g (node w₀ c₀) j in
         let t = charged_light f few in
         let r = (fits.convex w₀ c₀ lw lc).rise_light (f (node w₀ c₀)) in
         let n = light (node w₀ c₀) in
@@ -113,13 +117,13 @@ module _ {V : Type 0} {K : Kind V} (L : Lawful K) (B : Problem V) (X : Charges V
         ∙ ap (K.plus (spent K B X b p f)) (sym tight)
 
   module _ (p f g : ℕ → ℕ) (v w₀ c₀ : ℕ) (lw : w₀ < B.weekends) (lc : c₀ < B.classes)
-      (tight : l v ≡ K.plus (l (above B.parent w₀ c₀)) (X.fall w₀ c₀ (f (node w₀ c₀)))) (changed : f (node w₀ c₀) ≡ suc (g (node w₀ c₀))) (others : (u : ℕ) → (u ≡ node w₀ c₀ → ⊥) → g u ≡ f u) (i : Walks p f v) (j : Walks p g (above B.parent w₀ c₀)) where
+      (tight : l v ≡ K.plus (l (above B.parent w₀ c₀)) (X.fall w₀ c₀ (f (node w₀ c₀)))) (changed : f (node w₀ c₀) ≡ suc (g (node w₀ c₀))) (others : ButAt (node w₀ c₀) f g) (i : Walks p f v) (j : Walks p g (above B.parent w₀ c₀)) where
     pub spent_down : K.plus (spent K B X b p g) (l (above B.parent w₀ c₀)) ≡ K.plus (spent K B X b p f) (l v)
     unfolding law_limit
     spent_down =
         let q = quotes_light p i.sent in
-        let few : (w c : ℕ) → w < B.weekends → c < B.classes → f (node w c) ≤ 120 = λ w c hw hc. (hole K B fits.sound).few p f b v w c lb hw hc i.holed in
-        let few' : (w c : ℕ) → w < B.weekends → c < B.classes → g (node w c) ≤ 120 = λ w c hw hc. (hole K B fits.sound).few p g b (above B.parent w₀ c₀) w c lb hw hc j.holed in
+        let few = walked_few p f v i in
+        let few' = walked_few p g (above B.parent w₀ c₀) j in
         let t = charged_light g few' in
         let x = fits.convex w₀ c₀ lw lc in
         let m = g (node w₀ c₀) in
@@ -130,11 +134,11 @@ module _ {V : Type 0} {K : Kind V} (L : Lawful K) (B : Problem V) (X : Charges V
         ∙ ap₂ (λ z u. K.plus (K.plus (other_quotes K B b p) z) u) (sym (charged_more g f w₀ c₀ lw lc few' few changed (λ u d. sym (others u d)))) (sym back)
 
   module _ (p q f : ℕ → ℕ) (v j₀ y : ℕ) (lj : j₀ < B.books) (apart : j₀ ≡ b → ⊥) (ly : y < B.weekends)
-      (tight : l v ≡ K.plus (l (node (p j₀) (B.class j₀))) (moving K B j₀ (p j₀) y)) (changed : q j₀ ≡ y) (others : (j : ℕ) → j < B.books → (j ≡ j₀ → ⊥) → q j ≡ p j) (i : Walks p f v) (j : Walks q f (node (p j₀) (B.class j₀))) where
+      (tight : l v ≡ K.plus (l (node (p j₀) (B.class j₀))) (moving K B j₀ (p j₀) y)) (changed : q j₀ ≡ y) (others : ButFor B j₀ p q) (i : Walks p f v) (j : Walks q f (node (p j₀) (B.class j₀))) where
     pub spent_move : K.plus (spent K B X b q f) (l (node (p j₀) (B.class j₀))) ≡ K.plus (spent K B X b p f) (l v)
     unfolding law_limit
     spent_move =
-        let few : (w c : ℕ) → w < B.weekends → c < B.classes → f (node w c) ≤ 120 = λ w c hw hc. (hole K B fits.sound).few p f b v w c lb hw hc i.holed in
+        let few = walked_few p f v i in
         let t = charged_light f few in
         let n = light (node (p j₀) (B.class j₀)) in
         let a = quotes_light p i.sent in
@@ -148,14 +152,11 @@ module _ {V : Type 0} {K : Kind V} (L : Lawful K) (B : Problem V) (X : Charges V
         ∙ solve L ρ ((var 1 ⊕ var 5) ⊕ ((var 2 ⊕ var 3) ⊕ ⊖ (var 4))) ((var 1 ⊕ var 2) ⊕ (var 3 ⊕ (var 5 ⊕ ⊖ (var 4)))) (omega arith) (omega arith) refl)
 
   -- the whole cost of an assignment whose counts f has
-  pub spent_whole : (p f : ℕ → ℕ) → ((j : ℕ) → j < B.books → p j < B.weekends) → Counts B p f → ((w c : ℕ) → w < B.weekends → c < B.classes → f (node w c) ≤ 120) → whole K B X p ≡ K.plus (spent K B X b p f) (quoted K B b (p b))
+  pub spent_whole : (p f : ℕ → ℕ) → ((j : ℕ) → j < B.books → p j < B.weekends) → Counts B p f → Few f → whole K B X p ≡ K.plus (spent K B X b p f) (quoted K B b (p b))
   unfolding law_limit whole
   spent_whole p f sent counts few =
       let a = quotes_light p sent in
       let t = charged_light f few in
       let q = quoted_light L B fits.sound b (p b) lb (sent b lb) in
-      ap₂ K.plus (quotes_whole p sent) (same counts)
+      ap₂ K.plus (quotes_whole p sent) (charged_same p f counts)
       ∙ solve L (other_quotes K B b p ∷ charged K B X f ∷ quoted K B b (p b) ∷ []) ((var 0 ⊕ var 2) ⊕ var 1) ((var 0 ⊕ var 1) ⊕ var 2) (omega arith) (omega arith) refl
-    where
-      same : Counts B p f → table_sum K B.weekends B.classes (λ w c. X.price w c (count B p w c)) ≡ charged K B X f
-      same h = charged_same p f h

@@ -27,5 +27,5 @@ module _ {V : Type 0} {K : Kind V} (L : Lawful K) where
             let t = here p f v None i e in
             let y = t.0 in
             let same : y ≡ x = omega (arith, at, t.3) in
-            step_end L B X fits word k into begin b lb l light rank via p q f word' v y t.1 t.2 refl t.3 t.4 starts (λ z lz iz. even z y lz t.1 iz t.2) begins mine theirs (rw same changed) others i;
+            step_end L B X fits word k into begin b lb l light rank via p q f word' v y t.1 t.2 refl t.3 t.4 starts (λ z lz iz. even z y lz t.1 iz t.2) (λ z lz _. begins z lz) mine theirs (rw same changed) others i;
       }

@@ -1,5 +1,5 @@
 -- The soft prices of an assignment come to its violations, and labels that are valid under soft bounds settle what the least plan is. Assumes nothing.
-use Rattle.std.proofs.Common.{◌≡◌, ℕ, zero, suc, ◌*◌, ◌^◌, ◌<◌, ◌≤◌, pos, ◌≤ℤ◌, IfSome, Some, None, Option, sym, refl, ap, ◌∙◌, ap₂, subst₂, mul-le-mul, arith}
+use Rattle.std.proofs.Common.{◌≡◌, ℕ, zero, suc, ◌*◌, ◌^◌, ◌<◌, ◌≤◌, Bool, pos, ◌≤ℤ◌, IfSome, Some, None, Option, sym, refl, ap, ◌∙◌, ap₂, subst₂, mul-le-mul, arith}
 use Rattle.std.proofs.lemmas.Int.{ints}
 use Rattle.amounts.specs.Kind.{Kind, Lawful, law_limit, AtMost}
 use Rattle.amounts.specs.Sums.{copies, table_sum, sum_n}
@@ -38,6 +38,9 @@ module _ {V : Type 0} (B : Problem V) (p : ℕ → ℕ) where
 
   plan_none : Plan B p → violations B p ≡ 0
   plan_none P = within_none (λ w c lw lc. (P.least w c lw lc, P.most w c lw lc))
+
+pub inside_soft : {V : Type 0} (B : Problem V) (word : ℕ → ℕ → Bool) (p : ℕ → ℕ) → Inside B word p → Inside (softened B) word p
+inside_soft B word p i = record { sent = i.sent; meets = i.meets }
 
 -- ---- so many coins
 one_by_one : (k : ℕ) → copies integers k (pos 1) ≡ pos k
@@ -133,10 +136,7 @@ module _ {V : Type 0} {K : Kind V} (L : Lawful K) where
   unfolding count member
   least_in_score B s straight word l p f q shown other =
       subst₂ (AtMost (soft_kind K)) (whole_score B s p shown.inside.sent) (whole_score B s q other.sent)
-      (least_by_labels (soft_lawful L) (softened B) (soft_charges K B) (softened_sound B s) (soft_charges_convex B s straight) word l p f q shown.light (inside p shown.inside) shown.counts shown.valid (inside q other))
-    where
-      inside : (q : ℕ → ℕ) → Inside B word q → Inside (softened B) word q
-      inside q i = record { sent = i.sent; meets = i.meets }
+      (least_by_labels (soft_lawful L) (softened B) (soft_charges K B) (softened_sound B s) (soft_charges_convex B s straight) word l p f q shown.light (inside_soft B word p shown.inside) shown.counts shown.valid (inside_soft B word q other))
 
   pub labels_settle : LabelsSettle K
   unfolding law_limit

@@ -6,7 +6,7 @@ use Rattle.amounts.proofs.Solve.{var, ◌⊕◌, ⊖, linear}
 use Rattle.solver.specs.declared.arcs.Arc.{Arc}
 use Rattle.solver.specs.declared.arcs.Arc.TheVariants.{Rise, Fall, Move}
 use Rattle.plans.specs.Problem.{Problem}
-use Rattle.solver.specs.Residual.{node, above, Charges, Counts, Holed, Inside, quoted, moving, LightLabels, Fits, Valid}
+use Rattle.solver.specs.Residual.{node, above, Charges, Counts, Holed, ButFor, ButAt, Inside, quoted, moving, LightLabels, Fits, Valid}
 use Rattle.solver.specs.Walk.{Reached, Walking}
 use Rattle.solver.proofs.Hole.{hole}
 use Rattle.solver.proofs.Optimal.{quoted_light}
@@ -35,13 +35,9 @@ module _ {V : Type 0} {K : Kind V} (L : Lawful K) (B : Problem V) (X : Charges V
   abbrev Tights : (ℕ → ℕ) → (ℕ → ℕ) → ℕ → Option Arc → Type 0
   Tights p f v o = Reached K B X word k into begin l rank p f v o
 
-  -- one place of f has changed
-  abbrev pub Other : (ℕ → ℕ) → (ℕ → ℕ) → ℕ → Type 0
-  Other f g n = (v : ℕ) → (v ≡ n → ⊥) → g v ≡ f v
-
   -- ---- the arc up from (w₀, c₀) is undone
   module _ (p f g : ℕ → ℕ) (v w₀ c₀ : ℕ) (lw : w₀ < B.weekends) (lc : c₀ < B.classes) (at : v ≡ above B.parent w₀ c₀) (lower : rank (node w₀ c₀) < rank v)
-      (tight : l v ≡ K.plus (l (node w₀ c₀)) (X.rise w₀ c₀ (f (node w₀ c₀)))) (changed : g (node w₀ c₀) ≡ suc (f (node w₀ c₀))) (others : Other f g (node w₀ c₀)) (i : Walks p f v) where
+      (tight : l v ≡ K.plus (l (node w₀ c₀)) (X.rise w₀ c₀ (f (node w₀ c₀)))) (changed : g (node w₀ c₀) ≡ suc (f (node w₀ c₀))) (others : ButAt (node w₀ c₀) f g) (i : Walks p f v) where
     up_tight : l (above B.parent w₀ c₀) ≡ K.plus (l (node w₀ c₀)) (X.rise w₀ c₀ (f (node w₀ c₀)))
     up_tight = rw at at tight
 
@@ -108,7 +104,7 @@ module _ {V : Type 0} {K : Kind V} (L : Lawful K) (B : Problem V) (X : Charges V
 
   -- ---- the arc down into (w₀, c₀) is undone
   module _ (p f g : ℕ → ℕ) (v w₀ c₀ : ℕ) (lw : w₀ < B.weekends) (lc : c₀ < B.classes) (at : v ≡ node w₀ c₀) (lower : rank (above B.parent w₀ c₀) < rank v)
-      (tight : l v ≡ K.plus (l (above B.parent w₀ c₀)) (X.fall w₀ c₀ (f (node w₀ c₀)))) (changed : f (node w₀ c₀) ≡ suc (g (node w₀ c₀))) (others : Other f g (node w₀ c₀)) (i : Walks p f v) where
+      (tight : l v ≡ K.plus (l (above B.parent w₀ c₀)) (X.fall w₀ c₀ (f (node w₀ c₀)))) (changed : f (node w₀ c₀) ≡ suc (g (node w₀ c₀))) (others : ButAt (node w₀ c₀) f g) (i : Walks p f v) where
     down_tight : l (node w₀ c₀) ≡ K.plus (l (above B.parent w₀ c₀)) (X.fall w₀ c₀ (suc (g (node w₀ c₀))))
     down_tight = rw (at, changed) at tight
 
@@ -165,7 +161,7 @@ module _ {V : Type 0} {K : Kind V} (L : Lawful K) (B : Problem V) (X : Charges V
 
   -- ---- the book j₀ is moved into the hole
   module _ (p q f : ℕ → ℕ) (v j₀ y : ℕ) (lj : j₀ < B.books) (ly : y < B.weekends) (wide : word j₀ y ≡ true) (at : v ≡ node y (B.class j₀)) (lower : rank (node (p j₀) (B.class j₀)) < rank v)
-      (tight : l v ≡ K.plus (l (node (p j₀) (B.class j₀))) (moving K B j₀ (p j₀) y)) (changed : q j₀ ≡ y) (others : (j : ℕ) → j < B.books → (j ≡ j₀ → ⊥) → q j ≡ p j) (i : Walks p f v) where
+      (tight : l v ≡ K.plus (l (node (p j₀) (B.class j₀))) (moving K B j₀ (p j₀) y)) (changed : q j₀ ≡ y) (others : ButFor B j₀ p q) (i : Walks p f v) where
     -- the book that is taken out is not met again
     pub apart : j₀ ≡ b → ⊥
     apart e = let y : rank (node (p j₀) (B.class j₀)) ≡ rank (node (p b) (B.class b)) = ap (λ j. rank (node (p j) (B.class j))) e in omega (arith, i.under)
@@ -214,9 +210,9 @@ module _ {V : Type 0} {K : Kind V} (L : Lawful K) (B : Problem V) (X : Charges V
   -- ---- the hole is at a start: b is put there
   module _ (p q f : ℕ → ℕ) (word' : ℕ → ℕ → Bool) (v x₀ : ℕ) (lx : x₀ < B.weekends) (in' : into x₀ ≡ true) (mate : B.class b ≡ k) (at : v ≡ node x₀ k) (tight : l v ≡ begin x₀)
       (starts : (x : ℕ) → x < B.weekends → into x ≡ true → AtMost K (l (node x k)) (begin x))
-      (even : (x : ℕ) → x < B.weekends → into x ≡ true → K.plus (begin x) (quoted K B b x₀) ≡ K.plus (begin x₀) (quoted K B b x)) (begins : (x : ℕ) → x < B.weekends → K.weight (begin x) ≤ 10 ^ 9)
+      (even : (x : ℕ) → x < B.weekends → into x ≡ true → K.plus (begin x) (quoted K B b x₀) ≡ K.plus (begin x₀) (quoted K B b x)) (begins : (x : ℕ) → x < B.weekends → into x ≡ true → K.weight (begin x) ≤ 10 ^ 9)
       (mine : (x : ℕ) → word' b x ≡ into x) (theirs : (j x : ℕ) → (j ≡ b → ⊥) → word' j x ≡ word j x)
-      (changed : q b ≡ x₀) (others : (j : ℕ) → j < B.books → (j ≡ b → ⊥) → q j ≡ p j) (i : Walks p f v) where
+      (changed : q b ≡ x₀) (others : ButFor B b p q) (i : Walks p f v) where
     at' : v ≡ node x₀ (B.class b)
     at' = at ∙ ap (node x₀) (sym mate)
 
@@ -228,8 +224,8 @@ module _ {V : Type 0} {K : Kind V} (L : Lawful K) (B : Problem V) (X : Charges V
         let d = light (node x₀ k) in
         let qx = quoted_light L B fits.sound b x lb hx in
         let q0 = quoted_light L B fits.sound b x₀ lb lx in
-        let bx = begins x hx in
-        let b0 = begins x₀ lx in
+        let bx = begins x hx hm in
+        let b0 = begins x₀ lx in' in
         rw mate (linear L (l (node x k) ∷ l (node x₀ k) ∷ quoted K B b x ∷ quoted K B b x₀ ∷ begin x ∷ begin x₀ ∷ []) ((var 0, var 4) ∷ (var 5, var 1) ∷ (var 4 ⊕ var 3, var 5 ⊕ var 2) ∷ []) (var 0) (var 1 ⊕ (var 2 ⊕ ⊖ (var 3))) (starts x hx hm, (inr (sym t), (inr (even x hx hm), tt))) (omega arith) refl)
 
     -- the counts are those of the new assignment, which is within the new words, and the labels are valid for it

@@ -9,7 +9,7 @@ use Rattle.solver.specs.declared.arcs.Arc.TheVariants.{Rise, Fall, Move}
 use Rattle.plans.specs.Problem.{Problem, Plan, NoPlan, is_open, total}
 use Rattle.solver.specs.Soft.{fine, rise, fall, soft_kind, violation, Convex, softened, violations, score}
 use Rattle.solver.specs.Walk.{Walking}
-use Rattle.solver.specs.Search.{nodes, Start, Searchable, Before, Searching, Last, Seeks, stage, stages, Staged}
+use Rattle.solver.specs.Search.{nodes, FromOrigins, FromClass, Searchable, Before, Searching, Last, Seeks, stage, stages, Staged}
 use Rattle.solver.specs.Residual.{Live, head, tail, quoted, arc_cost, Fits, node, above, Charges, Counts, Holed, ButFor, ButAt, Inside, LightLabels, ConvexCharges, Valid, whole}
 use Rattle.plans.specs.Theorems.{Sound}
 
@@ -100,12 +100,12 @@ module _ {V : Type 0} (K : Kind V) where
       ((w c : ℕ) → w < B.weekends → c < B.classes → Stepped B X l f w c (e w c)) → Valid K B X word l p f
 
   -- the steps of a search keep its invariant
-  module _ (B : Problem V) (X : Charges V) (word : ℕ → ℕ → Bool) (origin : ℕ → Bool) (begin : ℕ → V) (p f : ℕ → ℕ) (pot : ℕ → V) where
+  module _ (B : Problem V) (X : Charges V) (word : ℕ → ℕ → Bool) (Start : ℕ → V → Type 0) (p f : ℕ → ℕ) (pot : ℕ → V) where
     -- u was settled last, and its arcs before stage s are taken
     pub record Taking (t : ℕ) (d : ℕ → V) (seen : ℕ → Bool) (rank : ℕ → ℕ) (via : ℕ → Option Arc) (u s : ℕ) : Type 0 where
       pub settled : rank u < nodes
-      pub last : Last K B X word origin begin p f pot d rank u
-      pub searching : Searching K B X word origin begin p f pot (Staged B word p rank u s) t d seen rank via
+      pub last : Last K B X word Start p f pot d rank u
+      pub searching : Searching K B X word Start p f pot (Staged B word p rank u s) t d seen rank via
 
     -- what the arc a offers to the node that it leads to
     abbrev pub offer : (ℕ → V) → Arc → V
@@ -120,14 +120,16 @@ module _ {V : Type 0} (K : Kind V) where
     pub record SearchKept : Type 0 where
       -- at first the starts are seen, and nothing is settled
       pub begins : (d : ℕ → V) (seen : ℕ → Bool) (rank : ℕ → ℕ) (via : ℕ → Option Arc) → ((v : ℕ) → nodes ≤ rank v) → ((v : ℕ) → via v ≡ None) →
-          ((v : ℕ) → seen v ≡ true → Start K B X word origin begin p f pot v (d v)) → ((v : ℕ) (s : V) → Start K B X word origin begin p f pot v s → (seen v ≡ true) × AtMost K (d v) s) → ((v : ℕ) → K.weight (d v) ≤ 10 ^ 9) →
-          Seeks K B X word origin begin p f pot 0 d seen rank via
+          ((v : ℕ) → seen v ≡ true → Start v (d v)) → ((v : ℕ) (s : V) → Start v s → (seen v ≡ true) × AtMost K (d v) s) → ((v : ℕ) → K.weight (d v) ≤ 10 ^ 9) →
+          Seeks K B X word Start p f pot 0 d seen rank via
       -- of the nodes that are seen and not settled, one with a least key is settled
-      pub settles : (t : ℕ) (d : ℕ → V) (seen : ℕ → Bool) (rank rank' : ℕ → ℕ) (via : ℕ → Option Arc) (u : ℕ) → Seeks K B X word origin begin p f pot t d seen rank via →
-          u < nodes → seen u ≡ true → nodes ≤ rank u → ((v : ℕ) → seen v ≡ true → nodes ≤ rank v → Before K B X word origin begin p f pot d u v) → rank' u ≡ t → ((v : ℕ) → (v ≢ u) → rank' v ≡ rank v) →
+      pub settles : (t : ℕ) (d : ℕ → V) (seen : ℕ → Bool) (rank rank' : ℕ → ℕ) (via : ℕ → Option Arc) (u : ℕ) → Seeks K B X word Start p f pot t d seen rank via →
+          u < nodes → seen u ≡ true → nodes ≤ rank u → ((v : ℕ) → seen v ≡ true → nodes ≤ rank v → Before K B X word Start p f pot d u v) → rank' u ≡ t → ((v : ℕ) → (v ≢ u) → rank' v ≡ rank v) →
           (t < nodes) × Taking (suc t) d seen rank' via u 0
       -- u has no arc from stage s to before stage s'
       pub skips : (t : ℕ) (d : ℕ → V) (seen : ℕ → Bool) (rank : ℕ → ℕ) (via : ℕ → Option Arc) (u s s' : ℕ) → Taking t d seen rank via u s → ((a : Arc) → Live B word a → tail B p a ≡ u → s ≤ stage a → stage a < s' → ⊥) → Taking t d seen rank via u s'
+      -- u has no arc of stage s
+      pub skips_one : (t : ℕ) (d : ℕ → V) (seen : ℕ → Bool) (rank : ℕ → ℕ) (via : ℕ → Option Arc) (u s : ℕ) → Taking t d seen rank via u s → ((a : Arc) → Next u s a → ⊥) → Taking t d seen rank via u (suc s)
       -- a settled node is not improved
       pub no_better : (t : ℕ) (d : ℕ → V) (seen : ℕ → Bool) (rank : ℕ → ℕ) (via : ℕ → Option Arc) (u s : ℕ) (a : Arc) → Taking t d seen rank via u s → Next u s a → rank (head B a) < nodes → AtMost K (d (head B a)) (offer d a)
       -- the label where the arc leads is as good already
@@ -138,10 +140,10 @@ module _ {V : Type 0} (K : Kind V) where
           (seen (head B a) ≡ true → AtMost K (offer d a) (d (head B a))) → d' (head B a) ≡ offer d a → seen' (head B a) ≡ true → via' (head B a) ≡ Some a →
           ((v : ℕ) → (v ≢ head B a) → (d' v ≡ d v) × (seen' v ≡ seen v) × (via' v ≡ via v)) → Taking t d' seen' rank via' u (suc s)
       -- all stages are past
-      pub goes_on : (t : ℕ) (d : ℕ → V) (seen : ℕ → Bool) (rank : ℕ → ℕ) (via : ℕ → Option Arc) (u : ℕ) → Taking t d seen rank via u stages → Seeks K B X word origin begin p f pot t d seen rank via
+      pub goes_on : (t : ℕ) (d : ℕ → V) (seen : ℕ → Bool) (rank : ℕ → ℕ) (via : ℕ → Option Arc) (u : ℕ) → Taking t d seen rank via u stages → Seeks K B X word Start p f pot t d seen rank via
 
   abbrev pub Search : Type 0
-  Search = (B : Problem V) (X : Charges V) (word : ℕ → ℕ → Bool) (origin : ℕ → Bool) (begin : ℕ → V) (p f : ℕ → ℕ) (pot : ℕ → V) → Searchable K B X word origin begin p f pot → SearchKept B X word origin begin p f pot
+  Search = (B : Problem V) (X : Charges V) (word : ℕ → ℕ → Bool) (origin : ℕ → Bool) (begin : ℕ → V) (p f : ℕ → ℕ) (pot : ℕ → V) → Searchable K B X word (FromOrigins origin begin) p f pot → SearchKept B X word (FromOrigins origin begin) p f pot
 
   -- the steps of the walk of the book b: each undoes the arc by which the node of the hole was reached, and takes the hole to a node of smaller rank
   module _ (B : Problem V) (X : Charges V) (word : ℕ → ℕ → Bool) (into : ℕ → Bool) (begin l : ℕ → V) (rank : ℕ → ℕ) (via : ℕ → Option Arc) (b : ℕ) where
@@ -172,14 +174,14 @@ module _ {V : Type 0} (K : Kind V) where
     pub starts : (v : ℕ) → v < nodes → origin v ≡ true → AtMost K (d v) (begin v)
 
   abbrev pub SearchEnds : Type 0
-  SearchEnds = (B : Problem V) (X : Charges V) (word : ℕ → ℕ → Bool) (origin : ℕ → Bool) (begin : ℕ → V) (p f : ℕ → ℕ) (pot : ℕ → V) → Searchable K B X word origin begin p f pot →
+  SearchEnds = (B : Problem V) (X : Charges V) (word : ℕ → ℕ → Bool) (origin : ℕ → Bool) (begin : ℕ → V) (p f : ℕ → ℕ) (pot : ℕ → V) → Searchable K B X word (FromOrigins origin begin) p f pot →
       (w₀ c₀ : ℕ) → w₀ < B.weekends → c₀ < B.classes → origin (node w₀ c₀) ≡ true →
-      (t : ℕ) (d : ℕ → V) (seen : ℕ → Bool) (rank : ℕ → ℕ) (via : ℕ → Option Arc) → Seeks K B X word origin begin p f pot t d seen rank via → ((v : ℕ) → seen v ≡ true → rank v < nodes) →
+      (t : ℕ) (d : ℕ → V) (seen : ℕ → Bool) (rank : ℕ → ℕ) (via : ℕ → Option Arc) → Seeks K B X word (FromOrigins origin begin) p f pot t d seen rank via → ((v : ℕ) → seen v ≡ true → rank v < nodes) →
       SearchDone B X word origin begin d p f
 
   -- the origins are the nodes of the class k at the weekends of `into`, at x with the first label `first x`
   pub record StartsAt (B : Problem V) (origin : ℕ → Bool) (begin : ℕ → V) (k : ℕ) (into : ℕ → Bool) (first : ℕ → V) : Type 0 where
-    pub only : (v : ℕ) → origin v ≡ true → (x : ℕ) × (x < B.weekends) × (into x ≡ true) × (v ≡ node x k) × (begin v ≡ first x)
+    pub only : (v : ℕ) → origin v ≡ true → FromClass B k into first v (begin v)
     pub each : (x : ℕ) → x < B.weekends → into x ≡ true → (origin (node x k) ≡ true) × (begin (node x k) ≡ first x)
 
   -- where a search from the class of b has ended, its labels are light and valid, those of the starts have not grown, and the walk of b may begin
@@ -190,9 +192,9 @@ module _ {V : Type 0} (K : Kind V) where
     pub underway : Underway B X word into begin d rank via b p f (node (p b) (B.class b))
 
   abbrev pub WalkBegins : Type 0
-  WalkBegins = (B : Problem V) (X : Charges V) (word : ℕ → ℕ → Bool) (b : ℕ) (origin into : ℕ → Bool) (begin first : ℕ → V) (p f : ℕ → ℕ) (pot : ℕ → V) → b < B.books → Inside B word p → Counts B p f → Searchable K B X word origin begin p f pot →
+  WalkBegins = (B : Problem V) (X : Charges V) (word : ℕ → ℕ → Bool) (b : ℕ) (origin into : ℕ → Bool) (begin first : ℕ → V) (p f : ℕ → ℕ) (pot : ℕ → V) → b < B.books → Inside B word p → Counts B p f → Searchable K B X word (FromOrigins origin begin) p f pot →
       StartsAt B origin begin (B.class b) into first → (x₀ : ℕ) → x₀ < B.weekends → into x₀ ≡ true →
-      (t : ℕ) (d : ℕ → V) (seen : ℕ → Bool) (rank : ℕ → ℕ) (via : ℕ → Option Arc) → Seeks K B X word origin begin p f pot t d seen rank via → ((v : ℕ) → seen v ≡ true → rank v < nodes) →
+      (t : ℕ) (d : ℕ → V) (seen : ℕ → Bool) (rank : ℕ → ℕ) (via : ℕ → Option Arc) → Seeks K B X word (FromOrigins origin begin) p f pot t d seen rank via → ((v : ℕ) → seen v ≡ true → rank v < nodes) →
       SearchEnded B X word into first d rank via p f b
 
   -- what a search from the class of b and the walk back give: an assignment with b at one of its new weekends
@@ -210,9 +212,9 @@ module _ {V : Type 0} (K : Kind V) where
   -- Where the search from the class of b has ended, with first labels that differ as the quotes of b do, there is an assignment with b at a weekend of `into`
   -- and every other book inside its word. The labels that the search found are valid for it, so it is least; and the labels say what it costs
   abbrev pub Reassigns : Type 0
-  Reassigns = (B : Problem V) (X : Charges V) (word : ℕ → ℕ → Bool) (b : ℕ) (origin into : ℕ → Bool) (begin first : ℕ → V) (p f : ℕ → ℕ) (pot : ℕ → V) → b < B.books → Inside B word p → Counts B p f → Searchable K B X word origin begin p f pot →
-      StartsAt B origin begin (B.class b) into first → ((x : ℕ) → x < B.weekends → K.weight (first x) ≤ 10 ^ 9) →
+  Reassigns = (B : Problem V) (X : Charges V) (word : ℕ → ℕ → Bool) (b : ℕ) (origin into : ℕ → Bool) (begin first : ℕ → V) (p f : ℕ → ℕ) (pot : ℕ → V) → b < B.books → Inside B word p → Counts B p f → Searchable K B X word (FromOrigins origin begin) p f pot →
+      StartsAt B origin begin (B.class b) into first →
       ((x y : ℕ) → x < B.weekends → y < B.weekends → into x ≡ true → into y ≡ true → K.plus (first x) (quoted K B b y) ≡ K.plus (first y) (quoted K B b x)) →
       (x₀ : ℕ) → x₀ < B.weekends → into x₀ ≡ true →
-      (t : ℕ) (d : ℕ → V) (seen : ℕ → Bool) (rank : ℕ → ℕ) (via : ℕ → Option Arc) → Seeks K B X word origin begin p f pot t d seen rank via → ((v : ℕ) → seen v ≡ true → rank v < nodes) →
+      (t : ℕ) (d : ℕ → V) (seen : ℕ → Bool) (rank : ℕ → ℕ) (via : ℕ → Option Arc) → Seeks K B X word (FromOrigins origin begin) p f pot t d seen rank via → ((v : ℕ) → seen v ≡ true → rank v < nodes) →
       (word' : ℕ → ℕ → Bool) → ((x : ℕ) → word' b x ≡ into x) → ((j x : ℕ) → (j ≢ b) → word' j x ≡ word j x) → Reassigned B X word' first d p b

@@ -19,7 +19,7 @@ use Rattle.solver.specs.declared.state.State.{State}
 use Rattle.solver.specs.declared.trail.Trail.{Trail}
 use Rattle.solver.specs.Soft.{soft_kind, softened}
 use Rattle.solver.specs.Residual.{tail, quoted, Fits, arc_cost}
-use Rattle.solver.specs.Search.{nodes, Searchable, Seeks}
+use Rattle.solver.specs.Search.{nodes, FromOrigins, Searchable, Seeks}
 use Rattle.solver.specs.Flows.{soft_charges, Shown, Taking, SearchEnded}
 
 module _ {V : Type 0} (K : Kind V) where
@@ -134,16 +134,16 @@ posed_by source K g = problem (meaning source g.source.now) g.roster.now g.bound
 module _ {V : Type 0} (K : Kind V) (B : Problem V) (state : State) where
   -- what a search over this state asks for, from the given origins and with the given valid labels
   abbrev pub SearchableIn : (ℕ → Bool) → (ℕ → Ranked Money V) → (ℕ → Ranked Money V) → Type 0
-  SearchableIn origin begin pot = Searchable (soft_kind K) (softened B) (soft_charges K B) (word_at state.words) origin begin (at state.sent) (at state.counts) pot
+  SearchableIn origin begin pot = Searchable (soft_kind K) (softened B) (soft_charges K B) (word_at state.words) (FromOrigins origin begin) (at state.sent) (at state.counts) pot
 
   -- t nodes are settled, u the last of them, and its arcs before stage s are taken
   abbrev pub TakingIn : (ℕ → Bool) → (ℕ → Ranked Money V) → (ℕ → Ranked Money V) → Memory V → ℕ → ℕ → ℕ → Type 0
   TakingIn origin begin pot m t u s =
-      Taking (soft_kind K) (softened B) (soft_charges K B) (word_at state.words) origin begin (at state.sent) (at state.counts) pot t (new_of K m) (seen_of m) (rank_of m) (via_of m) u s
+      Taking (soft_kind K) (softened B) (soft_charges K B) (word_at state.words) (FromOrigins origin begin) (at state.sent) (at state.counts) pot t (new_of K m) (seen_of m) (rank_of m) (via_of m) u s
 
   -- t nodes are settled, and all their arcs are taken
   abbrev pub SeeksIn : (ℕ → Bool) → (ℕ → Ranked Money V) → (ℕ → Ranked Money V) → Memory V → ℕ → Type 0
-  SeeksIn origin begin pot m t = Seeks (soft_kind K) (softened B) (soft_charges K B) (word_at state.words) origin begin (at state.sent) (at state.counts) pot t (new_of K m) (seen_of m) (rank_of m) (via_of m)
+  SeeksIn origin begin pot m t = Seeks (soft_kind K) (softened B) (soft_charges K B) (word_at state.words) (FromOrigins origin begin) (at state.sent) (at state.counts) pot t (new_of K m) (seen_of m) (rank_of m) (via_of m)
 
   -- what an arc offers to the node that it leads to
   abbrev pub offer_in : Memory V → Arc → Ranked Money V

@@ -11,19 +11,25 @@ use Rattle.solver.specs.Residual.{node, Charges, Live, head, tail, arc_cost, Lig
 abbrev pub nodes : ℕ
 nodes = 129
 
--- A search from the nodes that are origins, at v with the first label begin v, where p is the assignment, f counts it, and `pot` are labels that are valid for it
-module _ {V : Type 0} (K : Kind V) (B : Problem V) (X : Charges V) (word : ℕ → ℕ → Bool) (origin : ℕ → Bool) (begin : ℕ → V) (p f : ℕ → ℕ) (pot : ℕ → V) where
-  -- v is a start, and s its first label
-  abbrev pub Start : ℕ → V → Type 0
-  Start v s = (v < nodes) × (origin v ≡ true) × (s ≡ begin v)
+-- The two ways in which starts are given: by any nodes that are origins, each with its first label; and by one class
+module _ {V : Type 0} where
+  -- v is an origin, and s its first label
+  abbrev pub FromOrigins : (ℕ → Bool) → (ℕ → V) → ℕ → V → Type 0
+  FromOrigins origin begin v s = (v < nodes) × (origin v ≡ true) × (s ≡ begin v)
 
+  -- v is the node of the class k at a weekend x of `into`, and s is begin x
+  abbrev pub FromClass : Problem V → ℕ → (ℕ → Bool) → (ℕ → V) → ℕ → V → Type 0
+  FromClass B k into begin v s = (x : ℕ) × (x < B.weekends) × (into x ≡ true) × (v ≡ node x k) × (s ≡ begin x)
+
+-- A search, where `Start v s` says that v is a start and s its first label, p is the assignment, f counts it, and `pot` are labels that are valid for it
+module _ {V : Type 0} (K : Kind V) (B : Problem V) (X : Charges V) (word : ℕ → ℕ → Bool) (Start : ℕ → V → Type 0) (p f : ℕ → ℕ) (pot : ℕ → V) where
   -- what the search asks for
   pub record Searchable : Type 0 where
     pub fits : Fits K B X
     pub sent : (j : ℕ) → j < B.books → p j < B.weekends
     pub valid : Valid K B X word pot p f
     pub light : LightLabels K B pot
-    pub begins : (v : ℕ) → origin v ≡ true → K.weight (begin v) ≤ 10 ^ 9
+    pub begins : (v : ℕ) (s : V) → Start v s → K.weight s ≤ 10 ^ 9
 
   -- d u less pot u is the key of u, and it is at most that of v
   abbrev pub Before : (ℕ → V) → ℕ → ℕ → Type 0

@@ -4,6 +4,7 @@ use Rattle.amounts.specs.Kind.{Kind}
 use Rattle.amounts.specs.Sums.{sum_below, table_sum}
 use Rattle.solver.specs.declared.arcs.Arc.{Arc}
 use Rattle.plans.specs.Problem.{Problem}
+use Rattle.solver.specs.Search.{FromClass}
 use Rattle.solver.specs.Residual.{node, Charges, Holed, Live, head, tail, quoted, arc_cost, Valid}
 
 module _ {V : Type 0} (K : Kind V) (B : Problem V) where
@@ -25,7 +26,7 @@ module _ {V : Type 0} (K : Kind V) (B : Problem V) where
 module _ {V : Type 0} (K : Kind V) (B : Problem V) (X : Charges V) (word : ℕ → ℕ → Bool) (k : ℕ) (into : ℕ → Bool) (begin : ℕ → V) (l : ℕ → V) (rank : ℕ → ℕ) where
   -- the node v was a start, or the arc by which it was reached comes from a node of smaller rank and is tight: along it the label grows by just the cost
   abbrev pub Reached : (ℕ → ℕ) → (ℕ → ℕ) → ℕ → Option Arc → Type 0
-  Reached p f v None = (x : ℕ) × (x < B.weekends) × (into x ≡ true) × (v ≡ node x k) × (l v ≡ begin x)
+  Reached p f v None = FromClass B k into begin v (l v)
   Reached p f v (Some a) = Live B word a × (v ≡ head B a) × (rank (tail B p a) < rank v) × (l v ≡ K.plus (l (tail B p a)) (arc_cost K B X p f a))
 
   -- the book b is taken out, and the hole is at v; `via` has the arc by which each node was reached

@@ -1,5 +1,6 @@
 // Theorems that a search for a least plan stands on, over any kind of amounts. Each function has theorems for its contract and does nothing else.
 ghost use Rattle.solver.specs.Flows.{SoftConvex, Subgradient, LeastByLabels, LeastInScore, LabelsSettle, Hole, SoftFits, ColdValid, Search, SearchEnds, WalkBegins, Walk, Reassigns};
+ghost use Rattle.solver.specs.OneClass.{ColdByRises, ClassSearchable, ClassSearch, ClassSearchEnds, ClassReassigns};
 
 use amounts::Amount;
 
@@ -33,4 +34,15 @@ pub fn searches_stand<X: Amount>()
     ensures begun { WalkBegins X.Amount.kind }
     ensures walked { Walk X.Amount.kind }
     ensures reassigned { Reassigns X.Amount.kind }
+{}
+
+// The same of a search whose starts are given by one class, as for one book: a search may begin from labels that step by the rises, and wherever its first labels are light;
+// its steps keep its invariant; where it ends, the walk back takes the book to its new place.
+// Stays beside the clauses above, since a theorem on every kind of starts is of Type 1 and the check takes a clause of Type 0 only ("expected type `Type 0`, but this has type `Type 1`").
+pub fn class_searches_stand<X: Amount>()
+    ensures cold { ColdByRises X.Amount.kind }
+    ensures asked { ClassSearchable X.Amount.kind }
+    ensures kept { ClassSearch X.Amount.kind }
+    ensures ended { ClassSearchEnds X.Amount.kind }
+    ensures reassigned { ClassReassigns X.Amount.kind }
 {}

@@ -24,7 +24,9 @@ mod trail;
 mod words;
 
 pub use arcs::Arc;
-pub use flow_promises::{hole_stands, labels_stand, searches_stand, soft_bounds_stand};
+pub use flow_promises::{
+    class_searches_stand, hole_stands, labels_stand, searches_stand, soft_bounds_stand,
+};
 pub use network::{fall, rise, violation};
 pub use solution::Solution;
 pub use solving::solve;

@@ -15,6 +15,7 @@ pub fn violation<X: Amount>() -> Ranked<Money, X>
 }
 
 // What it costs to go from so many members to one more, where at least `lower` and at most `upper` are wanted.
+#[tactic(auto, unfolding(crate::specs::Soft::rise))]
 pub fn rise<X: Amount>(lower: usize, upper: usize, members: usize) -> Ranked<Money, X>
     ensures { result ≡ the_rise (soft_kind X.Amount.kind) (the_violation X.Amount.kind) lower upper members }
 {
@@ -29,6 +30,7 @@ pub fn rise<X: Amount>(lower: usize, upper: usize, members: usize) -> Ranked<Mon
 }
 
 // What it costs to go from so many members to one fewer.
+#[tactic(auto, unfolding(crate::specs::Soft::fall))]
 pub fn fall<X: Amount>(lower: usize, upper: usize, members: usize) -> Ranked<Money, X>
     ensures { result ≡ the_fall (soft_kind X.Amount.kind) (the_violation X.Amount.kind) lower upper members }
 {

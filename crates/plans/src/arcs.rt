@@ -1,9 +1,0 @@
-// The arcs of the residual graph (specs/Residual.antt).
-
-// Up from the node of a weekend and a class, down into it, or a book to another weekend.
-#[derive(Clone, Copy)]
-pub enum Arc {
-    Rise(usize, usize),
-    Fall(usize, usize),
-    Move(usize, usize),
-}
