@@ -1,24 +1,9 @@
-use Rattle.std.proofs.Common.{ap, ◌∙◌, ap₂}
-use Rattle.amounts.specs.Sums.{sum_below}
-use Rattle.amounts.proofs.Sums.{sum_more}
-use Rattle.plans.specs.Bounding.{bound_at}
+use Rattle.std.proofs.Common.{refl, rules}
 use Rattle.plans.specs.Posed.{bounds_ceiling}
-use Rattle.plans.specs.Sheets.{ceiling_of}
+use Rattle.amounts.proofs.Chains.{sum_of_map}
 use Rattle.plans.proofs.floors.ceilings_of.Goals as goal
 
-pub loop-class-init : goal.loop-class-init
-unfolding sum_below
-loop-class-init g c = c.zero-sum.ensures
-
-pub loop-class-preserved : goal.loop-class-preserved
-loop-class-preserved g c =
+pub returns : goal.returns
+returns g c =
     let k = g.X.Amount.kind in
-    let w = c.args.weekend in
-    let b = c.args.bounds.now in
-    let n = c.loop-class.class in
-    c.sum-sum.ensures
-    ∙ ap₂ k.plus c.loop-class.invariant
-    (c.ceiling.ensures
-    ∙ ap₂ (λ lower upper. ceiling_of k lower upper c.entry-own.result) c.lower-lower.ensures c.upper-upper.ensures
-    ∙ ap (ceiling_of k (bound_at b.lower w n) (bound_at b.upper w n)) c.entry-own.ensures)
-    ∙ sum_more k n (bounds_ceiling k c.args.classes b c.args.sheet.now w)
+    sum_of_map k _ _ _ (bounds_ceiling k c.args.classes c.args.bounds.now c.args.sheet.now c.args.weekend) c.fold.ensures.ran c.map.ensures.source c.map.ensures.closure refl c.zero.ensures (λ x y q k. search rules) (λ a x b q k. search rules)
