@@ -1,7 +1,7 @@
 // Assignments: what one comes to, and how many members of a class it sends to a weekend.
-ghost use Rattle.std.specs.Prelude.{◌≡◌, ◌&&◌, ◌==◌};
+ghost use Rattle.std.specs.Prelude.{◌≡◌};
 ghost use Rattle.plans.specs.Places.{at};
-ghost use Rattle.plans.specs.Posed.{meaning, assignment_total, assignment_count, is_member};
+ghost use Rattle.plans.specs.Posed.{meaning, assignment_total, assignment_count};
 
 use crate::class_tree::Roster;
 use amounts::Amount;
@@ -26,13 +26,6 @@ pub fn total_of<S: Source>(source: &S, assignment: &[u8]) -> S::Quote
         .fold(S::Quote::zero(), S::Quote::sum)
 }
 
-// Is the book a member of the class, and sent to the weekend?
-fn counts(roster: &Roster, assignment: &[u8], weekend: usize, class: usize, book: usize) -> bool
-    ensures { result ≡ (at assignment.now book == weekend && is_member roster.now book class) }
-{
-    weekend_of(assignment, book) == weekend && roster.member(book, class)
-}
-
 // How many of the first `books` books are members of the class and sent to the weekend.
 pub fn count_of(
     roster: &Roster,
@@ -44,6 +37,6 @@ pub fn count_of(
     ensures { result ≡ assignment_count roster.now books assignment.now weekend class }
 {
     (0..books)
-        .filter(|book| counts(roster, assignment, weekend, class, *book))
+        .filter(|book| { weekend_of(assignment, *book) == weekend && roster.member(*book, class) })
         .count()
 }

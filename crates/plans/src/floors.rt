@@ -5,7 +5,6 @@ ghost use Rattle.amounts.specs.Sums.{sum_below, table_sum};
 ghost use Rattle.plans.specs.Posed.{put, roster_toll, bounds_ceiling};
 ghost use Rattle.plans.specs.Sheets.{entries, smallest, ceiling_of, floor as the_floor};
 
-use crate::bound_table::Bounds;
 use crate::setting::Setting;
 use crate::tolls::{entry, toll};
 use amounts::{Amount, larger, smaller, times};
@@ -16,33 +15,6 @@ fn ceiling<X: Amount>(own: X, lower: usize, upper: usize) -> X
     ensures { result ≡ ceiling_of X.Amount.kind lower upper own }
 {
     larger(times(lower, own), times(upper, own))
-}
-
-// The most that can be paid for the entries of one weekend.
-fn ceilings_of<X: Amount>(classes: usize, bounds: &Bounds, sheet: &[X], weekend: usize) -> X
-    requires few { classes ≤ 8 }
-    requires near { weekend < 16 }
-    ensures { result ≡ sum_below X.Amount.kind classes (bounds_ceiling X.Amount.kind classes bounds.now sheet.now weekend) }
-{
-    (0..classes)
-        .map(|class| {
-            let own = entry(sheet, weekend * classes + class);
-            let lower = bounds.lower(weekend, class);
-            let upper = bounds.upper(weekend, class);
-            ceiling(own, lower, upper)
-        })
-        .fold(X::zero(), X::sum)
-}
-
-// The most that can be paid for all entries.
-fn ceilings<X: Amount>(classes: usize, weekends: usize, bounds: &Bounds, sheet: &[X]) -> X
-    requires few { classes ≤ 8 }
-    requires near { weekends ≤ 16 }
-    ensures { result ≡ table_sum X.Amount.kind weekends classes (bounds_ceiling X.Amount.kind classes bounds.now sheet.now) }
-{
-    (0..weekends)
-        .map(|weekend| ceilings_of(classes, bounds, sheet, weekend))
-        .fold(X::zero(), X::sum)
 }
 
 impl<'a, S: Source> Setting<'a, S> {
@@ -73,17 +45,35 @@ impl<'a, S: Source> Setting<'a, S> {
             .fold(S::Quote::zero(), S::Quote::sum)
     }
 
+    // The most that can be paid for the entries of one weekend.
+    fn ceilings_of(&self, sheet: &[S::Quote], weekend: usize) -> S::Quote
+        requires { weekend < 16 }
+        ensures { result ≡ sum_below S.Quote.Amount.kind self.now.roster.now.classes (bounds_ceiling S.Quote.Amount.kind self.now.roster.now.classes self.now.bounds.now sheet.now weekend) }
+    {
+        let classes = self.roster.classes();
+        (0..classes)
+            .map(|class| {
+                let own = entry(sheet, weekend * classes + class);
+                let lower = self.bounds.lower(weekend, class);
+                let upper = self.bounds.upper(weekend, class);
+                ceiling(own, lower, upper)
+            })
+            .fold(S::Quote::zero(), S::Quote::sum)
+    }
+
+    // The most that can be paid for all entries.
+    fn ceilings(&self, sheet: &[S::Quote]) -> S::Quote
+        ensures { result ≡ table_sum S.Quote.Amount.kind (S.Source.weeks self.now.source.now) self.now.roster.now.classes (bounds_ceiling S.Quote.Amount.kind self.now.roster.now.classes self.now.bounds.now sheet.now) }
+    {
+        (0..self.source.weekends())
+            .map(|weekend| self.ceilings_of(sheet, weekend))
+            .fold(S::Quote::zero(), S::Quote::sum)
+    }
+
     // The floor of a sheet: what the books cost at least, less what the bounds can take back. It has nothing to do with a limit.
     pub fn floor(&self, sheet: &[S::Quote]) -> S::Quote
         ensures { result ≡ the_floor S.Quote.Amount.kind (put S.Source self.now S.Quote.Amount.kind.none) (entries S.Quote.Amount.kind self.now.roster.now.classes sheet.now) }
     {
-        let least = self.costs(sheet);
-        let most = ceilings(
-            self.roster.classes(),
-            self.source.weekends(),
-            self.bounds,
-            sheet,
-        );
-        least.sum(most.opposite())
+        self.costs(sheet).sum(self.ceilings(sheet).opposite())
     }
 }
