@@ -1,12 +1,13 @@
 -- Why a limit or a roster is refused, and what a taken roster makes of the board.
-use Rattle.std.proofs.Common.{◌≡◌, ℕ, ◌<◌, ◌≤◌, min, leb, List, replicate, Some, None, Ok, Err, sym, ap, ◌∙◌}
+use Rattle.std.proofs.Common.{◌≡◌, ℕ, ◌<◌, ◌≤◌, leb, List, Some, None, Ok, Err, sym, ap, ◌∙◌}
 use Rattle.std.proofs.lemmas.Bool.{cond-true, cond-false, le-leb, lt-leb}
 use Rattle.amounts.specs.Kind.{Kind}
+use Rattle.plans.specs.declared.bound_table.Bound.{Bound}
 use Rattle.plans.specs.declared.class_lists.RosterFault.{RosterFault}
 use Rattle.plans.specs.Posed.{Meaning}
 use Rattle.plans.specs.Rosters.{Shape, roster_of}
 use Rattle.board.specs.declared.refusal.Refusal.TheVariants.{Heavy}
-use Rattle.board.specs.Standing.{Standing, limit, roster, fault, changed, with_roster, free_lower, roster_fault, roster_refusal}
+use Rattle.board.specs.Standing.{Standing, limit, roster, fault, changed, with_roster, free_bounds, roster_fault, roster_refusal}
 
 module _ {V : Type 0} (M : Meaning V) (K : Kind V) (st : Standing V) where
   pub limit_heavy : (x : V) (n : ℕ) → n ≡ K.weight x → 1000000000000 < n → Some Heavy ≡ fault M K st (limit x)
@@ -31,8 +32,6 @@ module _ {V : Type 0} (M : Meaning V) (K : Kind V) (st : Standing V) where
     roster_makes s e = ap (with_roster M st) (e ∙ ap (λ n. roster_of n ps cs) same)
 
   -- all bounds set back
-  pub roster_fresh : (s : Shape) (lower upper : List ℕ) (books : ℕ) → lower ≡ free_lower → upper ≡ replicate 128 (min books 120) → books ≡ M.books
-      → ◌≡◌ {A = Standing V} (record { struck = st.struck; roster = s; lower = lower; upper = upper; limit = st.limit }) (with_roster M st (Ok s))
-  roster_fresh s lower upper books e1 e2 e3 =
-      ap (λ x. record { struck = st.struck; roster = s; lower = x; upper = upper; limit = st.limit }) e1
-      ∙ ap (λ x. record { struck = st.struck; roster = s; lower = free_lower; upper = x; limit = st.limit }) (e2 ∙ ap (λ n. replicate 128 (min n 120)) e3)
+  pub roster_fresh : (s : Shape) (table : List Bound) (books : ℕ) → table ≡ free_bounds books → books ≡ M.books
+      → ◌≡◌ {A = Standing V} (record { struck = st.struck; roster = s; bounds = table; limit = st.limit }) (with_roster M st (Ok s))
+  roster_fresh s table books e1 e2 = ap (λ x. record { struck = st.struck; roster = s; bounds = x; limit = st.limit }) (e1 ∙ ap free_bounds e2)

@@ -10,8 +10,7 @@ abbrev pub standing : {S Q : Type 0} → Board S Q → Standing Q
 standing b = record {
   struck = b.layer.struck.words;
   roster = shape b.roster;
-  lower = b.bounds.lower;
-  upper = b.bounds.upper;
+  bounds = b.bounds.table;
   limit = b.limit;
 }
 

@@ -7,8 +7,8 @@ ghost use Rattle.board.specs.Questions.{light_entries, head_entries, toll_check 
 use crate::desk::Board;
 use crate::refusal::Refusal;
 use amounts::Amount;
-use plans::{head_accepts, toll_accepts};
-use sources::Source;
+use plans::Setting;
+use sources::{Source, StrikeLayer};
 
 // What a limit, or an entry of a toll sheet, may weigh at most.
 const HEAVIEST: u64 = 1_000_000_000_000;
@@ -40,6 +40,19 @@ fn are_heads(sheet: &[i8], count: usize) -> bool
 }
 
 impl<S: Source> Board<S> {
+    // What plans are sought over on this board.
+    fn setting(&self) -> Setting<'_, StrikeLayer<S>>
+        ensures source { result.source.now ≡ self.now.layer }
+        ensures roster { result.roster.now ≡ self.now.roster }
+        ensures bounds { result.bounds.now ≡ self.now.bounds }
+    {
+        Setting {
+            source: &self.layer,
+            roster: &self.roster,
+            bounds: &self.bounds,
+        }
+    }
+
     // How many places a sheet needs: one for each weekend and class.
     fn places(&self) -> usize
         ensures { result ≡ S.Source.weeks self.now.layer.below * self.now.roster.classes }
@@ -83,7 +96,7 @@ impl<S: Source> Board<S> {
             return Err(Refusal::Heavy);
         }
         self.look_at_quotes();
-        Ok(toll_accepts(&self.layer, &self.roster, &self.bounds, self.limit, sheet))
+        Ok(self.setting().toll_accepts(self.limit, sheet))
     }
 
     // The same of a head sheet, with entries -1, 0 or 1, every quote counted 0, and limit 0: it shows that there is no plan at all.
@@ -99,6 +112,6 @@ impl<S: Source> Board<S> {
             return Err(Refusal::Range);
         }
         self.look_at_quotes();
-        Ok(head_accepts(&self.layer, &self.roster, &self.bounds, sheet))
+        Ok(self.setting().head_accepts(sheet))
     }
 }

@@ -10,15 +10,14 @@ mod floors;
 mod free_source;
 mod heads;
 mod promises;
+mod setting;
 mod tolls;
 
 pub use assignments::{count_of, total_of};
 pub use bound_table::Bounds;
-pub use checks::toll_accepts;
 pub use class_lists::RosterFault;
 pub use class_tree::Roster;
-pub use floors::floor;
-pub use heads::head_accepts;
 pub use promises::{
     checks_stand, counts_stand, duality_stands, problems_stand, rosters_stand, trials_stand,
 };
+pub use setting::Setting;

@@ -15,7 +15,7 @@ loop-weekend-preserved g c =
     let pinned = c.quote.ensures.pinned in (
       elim c.if-is_some.branch [
         | then-is_some y ↦ λ w.
-            ap (λ x. bit_at x w) (y.word-is ∙ ap (bit_or word) (one_shl n 16 (omega (arith, c.weekends-weekend-end.ensures, g.S.Source.ranges.few_weeks s))))
+            ap (λ x. bit_at x w) (y.word-is ∙ ap (bit_or word) (one_shl n 16 (omega (arith, c.weekends-weekend-end.ensures, g.met.S.Source.ranges.few_weeks s))))
             ∙ word_open row n word c.loop-weekend.invariant.0 c.quote.result pinned y.if-is_some.ensures w
         | else-is_some y ↦ λ w. ap (λ x. bit_at x w) y.word-is ∙ word_shut row n word c.loop-weekend.invariant.0 c.quote.result pinned y.if-is_some.ensures w
       ],
@@ -27,6 +27,6 @@ returns g c =
     let s = c.args.source.now in
     let weeks = c.weekends-weekend-end.ensures in
     record {
-      bits = λ w. below_all (λ x. is_some (g.S.Source.table s c.args.book x)) c.loop-weekend.weekend (λ x h. ap is_some (g.S.Source.ranges.outside s c.args.book x (inr (omega arith)))) (bit_at c.loop-weekend.word w) w (c.loop-weekend.invariant.0 w);
+      bits = λ w. below_all (λ x. is_some (g.S.Source.table s c.args.book x)) c.loop-weekend.weekend (λ x h. ap is_some (g.met.S.Source.ranges.outside s c.args.book x (inr (omega arith)))) (bit_at c.loop-weekend.word w) w (c.loop-weekend.invariant.0 w);
       light = λ w h. c.loop-weekend.invariant.1 w (omega arith);
     }

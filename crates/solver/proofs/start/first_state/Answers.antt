@@ -18,8 +18,8 @@ pub place-requires : goal.place-requires
 place-requires g c =
     let s = c.args.source.now in
     let books = c.books-book-end.ensures in
-    let few = g.S.Source.ranges.few_books s in
-    let weeks = g.S.Source.ranges.few_weeks s in
+    let few = g.met.S.Source.ranges.few_books s in
+    let weeks = g.met.S.Source.ranges.few_weeks s in
     let found = subst (Found (g.S.Source.table s c.loop-book.book) (g.S.Source.weeks s)) c.in_ok-best.was c.cheapest.ensures in
     record {
       near = omega (arith, found.0);
@@ -31,7 +31,7 @@ pub loop-book-preserved : goal.loop-book-preserved
 loop-book-preserved g c =
     let s = c.args.source.now in
     let books = c.books-book-end.ensures in
-    let few = g.S.Source.ranges.few_books s in
+    let few = g.met.S.Source.ranges.few_books s in
     let found = subst (Found (g.S.Source.table s c.loop-book.book) (g.S.Source.weeks s)) c.in_ok-best.was c.cheapest.ensures in
     let before = c.loop-book.state in
     let after = c.place.new.state in (

@@ -13,4 +13,4 @@ pub returns : goal.returns
 unfolding changed
 returns g c =
     let M = under g.S.Source c.args.self.now in let K = g.S.Quote.Amount.kind in let st = standing c.args.self.now in
-    record { answer = taken_answer M K st (bounds c.args.weekend c.args.class c.args.lower c.args.upper) c.in_default.ensures; after = (ap (λ x. with_bounds st x c.set.new.self.upper) c.set.ensures.lower ∙ ap (with_bounds st _) c.set.ensures.upper) ∙ taken_changes M K st (bounds c.args.weekend c.args.class c.args.lower c.args.upper) c.in_default.ensures; same = refl }
+    record { answer = taken_answer M K st (bounds c.args.weekend c.args.class c.args.lower c.args.upper) c.in_default.ensures; after = ap (with_bounds st) c.set.ensures ∙ taken_changes M K st (bounds c.args.weekend c.args.class c.args.lower c.args.upper) c.in_default.ensures; same = refl }

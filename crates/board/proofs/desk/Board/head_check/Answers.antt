@@ -18,11 +18,12 @@ returns-then-not-are_heads g c =
 pub returns : goal.returns
 returns g c =
     let K = g.S.Quote.Amount.kind in let B = posed g.S.Source c.args.self.now in let sheet = c.args.sheet.now in
+    let told = rw (c.setting.ensures.source, c.setting.ensures.roster, c.setting.ensures.bounds) at c.head_accepts.ensures in
     record {
-      answer = head_told B sheet c.places-places.result c.places-places.ensures c.head_accepts.result c.if-sheet-places.false c.if-not-are_heads.ensures c.head_accepts.ensures;
+      answer = head_told B sheet c.places-places.result c.places-places.ensures c.head_accepts.result c.if-sheet-places.false c.if-not-are_heads.ensures told;
       sound = head_never B sheet c.places-places.result c.places-places.ensures K K.none c.head_accepts.result
           (posed_sound K (under_strikes g.S.Source c.args.self.now) c.args.self.now.roster c.args.self.now.bounds K.none
-          (g.S.Source.ranges.few_books c.args.self.now.layer.below) (g.S.Source.ranges.few_weeks c.args.self.now.layer.below) c.look_at_quotes.ensures
+          (g.met.S.Source.ranges.few_books c.args.self.now.layer.below) (g.met.S.Source.ranges.few_weeks c.args.self.now.layer.below) c.look_at_quotes.ensures
           (omega (arith, g.met.S.Quote.Amount.lawful.none_weight)))
-          c.head_accepts.ensures;
+          told;
     }

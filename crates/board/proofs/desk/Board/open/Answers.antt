@@ -5,7 +5,7 @@ pub returns : goal.returns
 returns g c = record {
   same = c.over.ensures.same;
   fresh =
-      opened_is _ g.S.Quote.Amount.kind c.over.result.struck.words c.plain.result.parents c.plain.result.homes c.open.result.lower c.open.result.upper
+      opened_is _ g.S.Quote.Amount.kind c.over.result.struck.words c.plain.result.parents c.plain.result.homes c.open.result.table
       c.plain.result.classes c.books-books.result c.zero.result c.over.ensures.clean c.plain.ensures.classes c.plain.ensures.parents c.plain.ensures.homes
-      c.open.ensures.lower c.open.ensures.upper c.books-books.ensures c.zero.ensures;
+      c.open.ensures c.books-books.ensures c.zero.ensures;
 }

@@ -14,7 +14,7 @@ returns-in-Ok g c =
     let e = roster_goes M K st c.books-books.result ps cs c.books-books.ensures s c.in-Ok.ensures in
     record {
       answer = taken_answer M K st (roster ps cs) e;
-      after = roster_fresh M K st s c.open-self.result.lower c.open-self.result.upper c.books-books.result c.open-self.ensures.lower c.open-self.ensures.upper c.books-books.ensures
+      after = roster_fresh M K st s c.open-self.result.table c.books-books.result c.open-self.ensures c.books-books.ensures
           ∙ (roster_makes M K st c.books-books.result ps cs c.books-books.ensures s c.in-Ok.ensures ∙ taken_changes M K st (roster ps cs) e);
       same = refl;
     }

@@ -23,10 +23,11 @@ returns-then-not-are_light g c =
 pub returns : goal.returns
 returns g c =
     let K = g.S.Quote.Amount.kind in let B = posed g.S.Source c.args.self.now in let sheet = c.args.sheet.now in
+    let told = rw (c.setting.ensures.source, c.setting.ensures.roster, c.setting.ensures.bounds) at c.toll_accepts.ensures in
     record {
-      answer = toll_told K B sheet c.places-places.result c.places-places.ensures c.weight.result c.toll_accepts.result c.if-sheet-places.false c.weight.ensures c.if-weight-gt-HEAVIEST.false c.if-not-are_light.ensures c.toll_accepts.ensures;
+      answer = toll_told K B sheet c.places-places.result c.places-places.ensures c.weight.result c.toll_accepts.result c.if-sheet-places.false c.weight.ensures c.if-weight-gt-HEAVIEST.false c.if-not-are_light.ensures told;
       sound = toll_never K B sheet c.places-places.result c.places-places.ensures g.met.S.Quote.Amount.lawful c.toll_accepts.result
           (posed_sound K (under_strikes g.S.Source c.args.self.now) c.args.self.now.roster c.args.self.now.bounds c.args.self.now.limit
-          (g.S.Source.ranges.few_books c.args.self.now.layer.below) (g.S.Source.ranges.few_weeks c.args.self.now.layer.below) c.look_at_quotes.ensures (omega (arith, c.weight.ensures)))
-          c.if-not-are_light.ensures c.toll_accepts.ensures;
+          (g.met.S.Source.ranges.few_books c.args.self.now.layer.below) (g.met.S.Source.ranges.few_weeks c.args.self.now.layer.below) c.look_at_quotes.ensures (omega (arith, c.weight.ensures)))
+          c.if-not-are_light.ensures told;
     }

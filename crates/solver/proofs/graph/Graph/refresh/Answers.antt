@@ -16,7 +16,7 @@ returns g c =
     let r = c.reset.ensures in
     let se = c.search.ensures.searched in
     let a = c.adopt.ensures in
-    let weeks : 0 < B.weekends = omega (arith, g.S.Source.ranges.some_week c.args.self.now.source.now) in
+    let weeks : 0 < B.weekends = omega (arith, g.met.S.Source.ranges.some_week c.args.self.now.source.now) in
     let classes : 0 < B.classes = omega (arith, c.args.self.now.roster.now.sound.0) in
     let x = refreshed g.met.S.Quote.Amount.lawful B c.requires.sound (λ w k _ _. bounds_straight c.args.self.now.bounds.now w k) state (memory_of c.args.labels.now t) (memory_of c.reset.new.self t) (memory_of c.search.new.labels c.search.new.trail) weeks classes c.requires.shown r.old r.new f.seen f.ranks f.arcs se in
     record {
