@@ -11,6 +11,3 @@ pub loop-preserved : goal.loop-preserved
 loop-preserved g c =
     let k = g.X.Amount.kind in
     c.sum-sum.ensures ∙ ap (λ s. k.plus s c.args.x) c.loop.invariant ∙ copies_more k c.loop.counter c.args.x
-
-pub returns : goal.returns
-returns g c = c.loop.invariant ∙ ap (λ n. copies g.X.Amount.kind n c.args.x) (omega arith)

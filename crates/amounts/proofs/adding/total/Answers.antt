@@ -14,10 +14,3 @@ loop-x-preserved g c =
     let xs = c.args.xs.now in
     let read = get_or_read xs c.loop-x.x-index c.x-item.result c.loop-x-test.true c.x-item.is k.none in
     (omega arith, c.sum-sum.ensures ∙ ap₂ k.plus c.loop-x.invariant.1 read ∙ sum_more k c.loop-x.x-index (item k xs))
-
-pub returns : goal.returns
-returns g c =
-    let k = g.X.Amount.kind in
-    let xs = c.args.xs.now in
-    let all : c.loop-x.x-index ≡ length xs = omega arith in
-    c.loop-x.invariant.1 ∙ ap (λ n. sum_below k n (item k xs)) all
