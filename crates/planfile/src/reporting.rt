@@ -70,11 +70,7 @@ pub fn report(file: &[u8], sheet: &mut [u8]) -> Result<usize, Fault>
     ensures fits { IfOk result (λ n. n ≤ length sheet.old) }
 {
     if sheet.len() < 16384 {
-        return Err(Fault {
-            refusal: Refusal::Sheet,
-            record: 0,
-            byte: 0,
-        });
+        return Err(Refusal::Sheet.at(0).in_record(0));
     }
     match read(FileKind::Money, file) {
         Ok(plan) => Ok(write_counts(sheet, file.len() / 16, plan.counts())),
