@@ -138,15 +138,6 @@ fn finish(count: usize, so_far: Progress) -> Result<Progress, Fault>
     }
 }
 
-// The record number `index`: its fault, told of the file, or what the file has come to with it.
-fn turn(kind: FileKind, so_far: Progress, index: usize, raw: &[u8; 16]) -> Result<Progress, Fault>
-    requires bounds { so_far.bounds < 2193 }
-    requires quotes { so_far.quotes < 2193 }
-    ensures { result ≡ turned index Ok (stepped kind so_far raw.now) }
-{
-    step(kind, so_far, raw).map_err(|spot| spot.in_record(index))
-}
-
 // The first fault of the records, or how many there are of each kind.
 fn walk(kind: FileKind, rows: &[[u8; 16]]) -> Result<Progress, Fault>
     requires { length rows.now ≤ 2193 }
@@ -154,7 +145,7 @@ fn walk(kind: FileKind, rows: &[[u8; 16]]) -> Result<Progress, Fault>
 {
     let mut so_far = Progress::default();
     for (i, raw) in rows.iter().enumerate() {
-        so_far = turn(kind, so_far, i, raw)?;
+        so_far = step(kind, so_far, raw).map_err(|spot| spot.in_record(i))?;
     }
     finish(rows.len(), so_far)
 }
