@@ -8,8 +8,6 @@ use Rattle.planfile.specs.declared.progress.FileKind.{FileKind}
 use Rattle.planfile.specs.declared.progress.Stage.{Stage}
 use Rattle.planfile.specs.declared.progress.Progress.{Progress}
 use Rattle.planfile.specs.declared.refusal.Fault.{Fault}
-use Rattle.planfile.specs.declared.refusal.Spot.{Spot}
-use Rattle.planfile.specs.Refusals.{fault_at}
 use Rattle.planfile.specs.Fields.{price_of}
 use Rattle.planfile.specs.Progress.{rank, within, start}
 use Rattle.planfile.specs.Records.{Step, stepped}

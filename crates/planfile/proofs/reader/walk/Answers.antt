@@ -1,4 +1,4 @@
-use Rattle.std.proofs.Common.{◌≡◌, ◌+◌, [], get_or, Ok, Err, sym, ap, ◌∙◌, arith, rules}
+use Rattle.std.proofs.Common.{◌≡◌, ◌+◌, [], get_or, Ok, Err, sym, ap, ◌∙◌, arith}
 use Rattle.planfile.specs.Progress.{start}
 use Rattle.planfile.specs.Reading.{turned, walked}
 use Rattle.planfile.specs.Records.{stepped}
