@@ -39,11 +39,11 @@ step_placed k p q r e = accepted_placed k p q r (accepted k p q r e)
 
 pub turned_ok : (i : ℕ) (next : Progress → Result Progress Fault) (s : Step) (q : Progress) → turned i next s ≡ Ok q → (m : Progress) × (s ≡ Ok m) × (next m ≡ Ok q)
 turned_ok i next (Ok m) q h = (m, refl, h)
-turned_ok i next (Err s) q h = let z : ◌≡◌ {A = ℕ} 0 1 = cc in absurd (omega arith)
+turned_ok i next (Err s) q h = absurd cc
 
 ended : (b : Bool) (i : ℕ) (p q : Progress) (f : Fault) → cond b (Ok p) (Err f) ≡ Ok q → (b ≡ true) × (p ≡ q)
 ended true i p q f e = (refl, cc)
-ended false i p q f e = let z : ◌≡◌ {A = ℕ} 0 1 = cc in absurd (omega arith)
+ended false i p q f e = absurd cc
 
 pub finished_ok : (i : ℕ) (p q : Progress) → finished i p ≡ Ok q → (eqb (rank p.stage) 6 ≡ true) × (p ≡ q)
 finished_ok i p q h = ended _ i p q _ h

@@ -25,22 +25,22 @@ zeros k bs rest = elim (nonzero k bs) [ None ↦ rest | Some at ↦ Err (spot Pa
 
 -- what the file has come to with one record more of each kind
 abbrev pub with_class : Progress → ℕ → Progress
-with_class p class = record { stage = Class; classes = class + 1; weekends = p.weekends; books = p.books; bounds = p.bounds; quotes = p.quotes; next_bound = p.next_bound; next_quote = p.next_quote }
+with_class p class = record p { stage = Class; classes = class + 1 }
 
 abbrev pub with_weekend : Progress → ℕ → Progress
-with_weekend p weekend = record { stage = Weekend; classes = p.classes; weekends = weekend + 1; books = p.books; bounds = p.bounds; quotes = p.quotes; next_bound = p.next_bound; next_quote = p.next_quote }
+with_weekend p weekend = record p { stage = Weekend; weekends = weekend + 1 }
 
 abbrev pub with_book : Progress → ℕ → Progress
-with_book p book = record { stage = Book; classes = p.classes; weekends = p.weekends; books = book + 1; bounds = p.bounds; quotes = p.quotes; next_bound = p.next_bound; next_quote = p.next_quote }
+with_book p book = record p { stage = Book; books = book + 1 }
 
 abbrev pub with_bound : Progress → ℕ → ℕ → Progress
-with_bound p weekend class = record { stage = Bound; classes = p.classes; weekends = p.weekends; books = p.books; bounds = p.bounds + 1; quotes = p.quotes; next_bound = place weekend (class + 1); next_quote = p.next_quote }
+with_bound p weekend class = record p { stage = Bound; bounds = p.bounds + 1; next_bound = place weekend (class + 1) }
 
 abbrev pub with_quote : Progress → ℕ → ℕ → Progress
-with_quote p book weekend = record { stage = Quote; classes = p.classes; weekends = p.weekends; books = p.books; bounds = p.bounds; quotes = p.quotes + 1; next_bound = p.next_bound; next_quote = place book (weekend + 1) }
+with_quote p book weekend = record p { stage = Quote; quotes = p.quotes + 1; next_quote = place book (weekend + 1) }
 
 abbrev pub with_limit : Progress → Progress
-with_limit p = record { stage = Limit; classes = p.classes; weekends = p.weekends; books = p.books; bounds = p.bounds; quotes = p.quotes; next_bound = p.next_bound; next_quote = p.next_quote }
+with_limit p = record p { stage = Limit }
 
 -- one class more: its number counts up from 0, and its parent is a class before it (class 0 is its own)
 abbrev pub class_record : Progress → ℕ → ℕ → List ℕ → Step

@@ -21,19 +21,19 @@ fn first_nonzero(bytes: &[u8]) -> Option<usize>
 
 // Refuses the first byte of a record from place `from` up to `to` that is not zero.
 #[tactic(auto, using(crate::proofs::Bytes::nonzero_position))]
-pub(crate) fn zeros(raw: &[u8; 16], from: u8, to: u8) -> Result<(), Spot>
+pub(crate) fn zeros(raw: &[u8; 16], from: usize, to: usize) -> Result<(), Spot>
     requires in_order { from ≤ to }
     requires in_record { to ≤ 16 }
     ensures { result ≡ the_zeros from (slice_range raw.now from to) (Ok tt) }
 {
-    match first_nonzero(&raw[usize::from(from)..usize::from(to)]) {
-        Some(i) => Err(Refusal::Padding.at(from + i as u8)),
+    match first_nonzero(&raw[from..to]) {
+        Some(i) => Err(Refusal::Padding.at((from + i) as u8)),
         None => Ok(()),
     }
 }
 
 // The same of all bytes from place `from` on.
-pub(crate) fn zeros_from(raw: &[u8; 16], from: u8) -> Result<(), Spot>
+pub(crate) fn zeros_from(raw: &[u8; 16], from: usize) -> Result<(), Spot>
     requires { from ≤ 16 }
     ensures { result ≡ the_zeros from (drop from raw.now) (Ok tt) }
 {
@@ -41,7 +41,7 @@ pub(crate) fn zeros_from(raw: &[u8; 16], from: u8) -> Result<(), Spot>
 }
 
 // How many bytes from the third on must be zero in a quote.
-pub(crate) fn spare_bytes(kind: FileKind) -> u8
+pub(crate) fn spare_bytes(kind: FileKind) -> usize
     ensures value { result ≡ the_spare_bytes kind }
     ensures few { result ≤ 5 }
 {

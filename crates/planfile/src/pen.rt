@@ -5,7 +5,7 @@ ghost use Rattle.planfile.specs.Lines.{Writes};
 use itoa::Buffer;
 
 // A place on a lent sheet, which moves on with what is written.
-// Stays bytes put down in place: the sheet is lent, and std's `write!` never promises that it answers `Ok`, as `report` must.
+// Stays a slice and a place in it: the sheet is lent, and std's `Write` for a slice does not say which bytes it puts there.
 #[derive(Drop)]
 pub(crate) struct Pen<'a> {
     pub(crate) sheet: &'a mut [u8],

@@ -131,10 +131,9 @@ fn quote_of(raw: &[u8; 16]) -> Quote
 fn finish(count: usize, so_far: Progress) -> Result<Progress, Fault>
     ensures { result ≡ finished count so_far }
 {
-    if so_far.stage == Stage::Limit {
-        Ok(so_far)
-    } else {
-        Err(Refusal::Letter.at(0).in_record(count))
+    match so_far.stage {
+        Stage::Limit => Ok(so_far),
+        _ => Err(Refusal::Letter.at(0).in_record(count)),
     }
 }
 

@@ -9,7 +9,7 @@ use crate::progress::{FileKind, Place, Progress, Stage};
 use crate::refusal::{Refusal, Spot};
 
 // The letter may stand where the file has come to one of the stages from `first` to `last`.
-fn letter_after(first: Stage, last: Stage, so_far: Progress) -> Result<(), Spot>
+fn letter_may_follow(so_far: Progress, first: Stage, last: Stage) -> Result<(), Spot>
     ensures { result ≡ refuse Letter 0 (not (within (rank first) (rank last) so_far.stage)) (Ok tt) }
 {
     Refusal::Letter
@@ -31,7 +31,7 @@ fn take_class(so_far: Progress, raw: &[u8; 16]) -> Result<Progress, Spot>
     ensures { result ≡ class_line so_far raw.now }
 {
     let [_, class, parent, ..] = *raw;
-    letter_after(Stage::Start, Stage::Class, so_far)?;
+    letter_may_follow(so_far, Stage::Start, Stage::Class)?;
     zeros_from(raw, 3)?;
     next_in_turn(class, so_far.classes, 8)?;
     Refusal::Number.at(2).when(parent >= class.max(1))?;
@@ -47,7 +47,7 @@ fn take_weekend(so_far: Progress, raw: &[u8; 16]) -> Result<Progress, Spot>
     ensures { result ≡ weekend_line so_far raw.now }
 {
     let [_, weekend, ..] = *raw;
-    letter_after(Stage::Class, Stage::Weekend, so_far)?;
+    letter_may_follow(so_far, Stage::Class, Stage::Weekend)?;
     zeros_from(raw, 2)?;
     next_in_turn(weekend, so_far.weekends, 16)?;
     Ok(Progress {
@@ -62,7 +62,7 @@ fn take_book(so_far: Progress, raw: &[u8; 16]) -> Result<Progress, Spot>
     ensures { result ≡ book_line so_far raw.now }
 {
     let [_, book, class, ..] = *raw;
-    letter_after(Stage::Weekend, Stage::Book, so_far)?;
+    letter_may_follow(so_far, Stage::Weekend, Stage::Book)?;
     zeros_from(raw, 3)?;
     next_in_turn(book, so_far.books, 120)?;
     Refusal::Number.at(2).when(class >= so_far.classes)?;
@@ -83,7 +83,7 @@ fn take_bound(so_far: Progress, raw: &[u8; 16]) -> Result<Progress, Spot>
         row: weekend,
         column: class,
     };
-    letter_after(Stage::Book, Stage::Bound, so_far)?;
+    letter_may_follow(so_far, Stage::Book, Stage::Bound)?;
     zeros_from(raw, 5)?;
     Refusal::Number.at(1).when(weekend >= so_far.weekends)?;
     Refusal::Number.at(1).when(place < so_far.next_bound)?;
@@ -111,7 +111,7 @@ fn take_quote(kind: FileKind, so_far: Progress, raw: &[u8; 16]) -> Result<Progre
         row: book,
         column: weekend,
     };
-    letter_after(Stage::Book, Stage::Quote, so_far)?;
+    letter_may_follow(so_far, Stage::Book, Stage::Quote)?;
     zeros(raw, 3, 3 + spare_bytes(kind))?;
     Refusal::Number.at(1).when(book >= so_far.books)?;
     Refusal::Number.at(1).when(place < so_far.next_quote)?;
@@ -138,7 +138,7 @@ fn take_limit(kind: FileKind, so_far: Progress, raw: &[u8; 16]) -> Result<Progre
     ensures { result ≡ limit_line kind so_far raw.now }
 {
     let price = read_price(raw);
-    letter_after(Stage::Book, Stage::Quote, so_far)?;
+    letter_may_follow(so_far, Stage::Book, Stage::Quote)?;
     zeros(raw, 1, 3 + spare_bytes(kind))?;
     Refusal::Weight
         .at(8)
