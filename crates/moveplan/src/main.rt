@@ -9,8 +9,10 @@ fn run(rt: &HostRuntime) -> anyhow::Result<()> {
     let mut file = Vec::new(rt.alloc());
     rt.stdin().read_to_end(&mut file)?;
     let mut sheet = vec![in rt.alloc(); 0u8; 16384]?;
-    let length = report(&file, &mut sheet)
-        .map_err(|_| anyhow!("the sheet for the report is too short"))?;
+    // Stays a `let .. else`: behind `map_err` and `?` the check ran out of memory at the range of the sheet.
+    let Ok(length) = report(&file, &mut sheet) else {
+        return Err(anyhow!("the sheet for the report is too short"));
+    };
     rt.stdout().write_all(&sheet[..length])?;
     Ok(())
 }
