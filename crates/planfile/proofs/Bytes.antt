@@ -1,10 +1,12 @@
 -- Numbers as bytes, the low byte first, there and back.
-use Rattle.std.proofs.Common.{◌≡◌, ℕ, zero, suc, ◌+◌, ◌*◌, ◌/◌, ◌%◌, ◌^◌, ◌<◌, ◌≤◌, cond, eqb, List, [], ◌∷◌, ◌++◌, length, get_or, take, drop, replicate, ℤ, pos, Some, None, Option, sym, refl, ap, ◌∙◌, arith, w32, w64, SFits, to_z, of_z}
+use Rattle.std.proofs.Common.{◌≡◌, ℕ, zero, suc, ◌+◌, ◌*◌, ◌/◌, ◌%◌, ◌^◌, ◌<◌, ◌≤◌, cond, not, eqb, List, [], ◌∷◌, ◌++◌, length, get_or, take, drop, replicate, ℤ, pos, Some, None, Option, sym, refl, ap, ◌∙◌, add-zero, arith, w32, w64, SFits, to_z, of_z}
 use mir.Facts.{Fits-of_z, sfits_to_z}
 use Rattle.std.proofs.lemmas.List.{drop_more, drop_all, get_or-take, get_or-drop}
 use Rattle.std.proofs.lemmas.Int.{to_z-of_z, of_z-to_z}
 use Rattle.std.proofs.lemmas.Bool.Decides.{nat_tests}
-use Rattle.std.specs.List.{AllByRecursion}
+use Rattle.std.proofs.lemmas.Iterator.Adapters.{position_from-zero}
+use Rattle.std.specs.Option.{option_map}
+use Rattle.std.specs.List.{AllByRecursion, position, position_from}
 use Rattle.planfile.specs.declared.fields.Price.{Price}
 use Rattle.planfile.specs.Fields.{nonzero, strain, money, price_of}
 use Rattle.planfile.specs.Description.{low_first, price_bytes}
@@ -27,7 +29,7 @@ abbrev pub Bytes : List ℕ → Type 0
 Bytes r = (i : ℕ) → get_or r i 0 < 256
 
 -- bytes that are zero
-zero_head : (b k : ℕ) (o : Option ℕ) → cond (eqb b 0) o (Some k) ≡ None → (b ≡ 0) × (o ≡ None)
+zero_head : (b k : ℕ) (o : Option ℕ) → cond (not (eqb b 0)) (Some k) o ≡ None → (b ≡ 0) × (o ≡ None)
 zero_head b k o e = grind (arith, nat_tests)
 
 pub none_zeros : (k : ℕ) (bs : List ℕ) → nonzero k bs ≡ None → bs ≡ replicate (length bs) 0
@@ -133,3 +135,12 @@ unfolding strain
 strain_fits r h =
     let b4 = h 4 in let b5 = h 5 in let b6 = h 6 in let b7 = h 7 in
     sfits_to_z (record { fits = omega arith })
+
+-- the first byte that is not zero, counted from the front of the list and from place k
+nonzero_shift : (k i : ℕ) (bs : List ℕ) → nonzero (k + i) bs ≡ option_map (λ j. k + j) (position_from (λ b. not (eqb b 0)) i bs)
+unfolding nonzero
+nonzero_shift k i [] = refl
+nonzero_shift k i (b ∷ bs) = let h = nonzero_shift k (i + 1) bs in grind arith
+
+pub nonzero_position : (k : ℕ) (bs : List ℕ) → nonzero k bs ≡ option_map (λ j. k + j) (position (λ b. not (eqb b 0)) bs)
+nonzero_position k bs = ap (λ n. nonzero n bs) (sym (add-zero k)) ∙ nonzero_shift k 0 bs ∙ ap (option_map (λ j. k + j)) (sym (position_from-zero (λ b. not (eqb b 0)) bs))

@@ -101,12 +101,12 @@ reads_back k d h =
 
 describing_ok : (rs : List (List ℕ)) (x : Result Progress Fault) (d : Description) → describing rs x ≡ Ok d → (p : Progress) × (x ≡ Ok p) × (sectioned p rs ≡ d)
 describing_ok rs (Ok p) d e = (p, refl, cc)
-describing_ok rs (Err f) d e = let z : ◌≡◌ {A = ℕ} 0 1 = cc in absurd (omega arith)
+describing_ok rs (Err f) d e = absurd cc
 
 accepted_size : (k : FileKind) (bs : List ℕ) (d : Description) → read_file k bs ≡ Ok d → bad_size bs ≡ false
 unfolding read_file
 accepted_size k bs d e =
-    ⊎_elim (λ t. let f = sym (cond-true _ _ _ t) ∙ e in let z : ◌≡◌ {A = ℕ} 0 1 = cc in absurd (omega arith)) (λ f. f) (cases_Bool (bad_size bs))
+    ⊎_elim (λ t. let f = sym (cond-true _ _ _ t) ∙ e in absurd cc) (λ f. f) (cases_Bool (bad_size bs))
 
 -- whatever is accepted was laid out
 pub laid_out : (k : FileKind) (bs : List ℕ) (d : Description) → Bytes bs → read_file k bs ≡ Ok d → Proper k d × (layout d ≡ bs)
@@ -133,4 +133,4 @@ tells_all k bs (Ok d) bytes e =
       only = λ o po lo. let a : read_file k bs ≡ Ok o = ap (read_file k) (sym lo) ∙ reads_back k o po in let b = e ∙ a in cc;
     }
 tells_all k bs (Err f) bytes e = λ d pd ld.
-    let a : read_file k bs ≡ Ok d = ap (read_file k) (sym ld) ∙ reads_back k d pd in let b = e ∙ a in let z : ◌≡◌ {A = ℕ} 0 1 = cc in omega arith
+    let a : read_file k bs ≡ Ok d = ap (read_file k) (sym ld) ∙ reads_back k d pd in let b = e ∙ a in cc

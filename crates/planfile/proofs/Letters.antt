@@ -1,5 +1,5 @@
 -- An accepted record is one of the six kinds, and passed the tests of its kind.
-use Rattle.std.proofs.Common.{◌≡◌, ℕ, ◌+◌, Bool, true, false, cond, ◌⊎◌, List, get_or, take, drop, Ok, Err, refl, inl, inr, ⊎_elim, arith}
+use Rattle.std.proofs.Common.{◌≡◌, ℕ, ◌+◌, Bool, true, false, cond, ◌⊎◌, List, get_or, take, drop, Ok, Err, refl, inl, inr, ⊎_elim}
 use Rattle.std.proofs.lemmas.Bool.{eqb-true}
 use Rattle.planfile.specs.declared.progress.FileKind.{FileKind}
 use Rattle.planfile.specs.declared.progress.Progress.{Progress}
@@ -21,7 +21,7 @@ either true x y q e = inl (refl, e)
 either false x y q e = inr e
 
 never : {X : Type 0} (s : Spot) (q : Progress) → ◌≡◌ {A = Step} (Err s) (Ok q) → X
-never s q e = let z : ◌≡◌ {A = ℕ} 0 1 = cc in absurd (omega arith)
+never s q e = absurd cc
 
 pub accepted : (k : FileKind) (p q : Progress) (r : List ℕ) → stepped k p r ≡ Ok q → Accepted k p q r
 unfolding stepped class_line weekend_line book_line bound_line quote_line limit_line

@@ -1,9 +1,7 @@
-pub mod Cuts
 pub mod Passed
 pub mod Letters
 pub mod Walks
 pub mod Writes
-pub mod Accessors
 pub mod Bytes
 pub mod Rows
 pub mod Sections

@@ -1,5 +1,5 @@
 -- What an accepted record tells: every test was passed.
-use Rattle.std.proofs.Common.{◌≡◌, ℕ, ◌<◌, ◌≤◌, max, Bool, true, false, not, List, nat_abs, Some, None, Ok, Err, Option, refl, arith}
+use Rattle.std.proofs.Common.{◌≡◌, ℕ, ◌<◌, ◌≤◌, max, Bool, true, false, not, List, nat_abs, Some, None, Ok, Err, Option, refl}
 use Rattle.std.proofs.lemmas.Bool.{not-false, and_parts, eqb-true, ltb-true, ltb-false, leb-true}
 use Rattle.planfile.specs.declared.fields.Price.{Price}
 use Rattle.planfile.specs.declared.progress.Progress.{Progress}
@@ -10,7 +10,7 @@ use Rattle.planfile.specs.Progress.{within, before, place}
 use Rattle.planfile.specs.Records.{Step, refuse, zeros, class_record, weekend_record, book_record, bound_record, quote_record, limit_record, with_class, with_weekend, with_book, with_bound, with_quote, with_limit}
 
 refuse_ok : (n : Refusal) (at : ℕ) (t : Bool) (rest : Step) (q : Progress) → refuse n at t rest ≡ Ok q → (t ≡ false) × (rest ≡ Ok q)
-refuse_ok n at true rest q e = let z : ◌≡◌ {A = ℕ} 0 1 = cc in absurd (omega arith)
+refuse_ok n at true rest q e = absurd cc
 refuse_ok n at false rest q e = (refl, e)
 
 -- the test itself, where it is asked to hold
@@ -18,12 +18,12 @@ pass_ok : (n : Refusal) (at : ℕ) (t : Bool) (rest : Step) (q : Progress) → r
 pass_ok n at t rest q e = let h = refuse_ok n at (not t) rest q e in (not-false t h.0, h.1)
 
 -- what zeros answers, by what stands at the first byte that is not zero
-abbrev padded : Option ℕ → Step → Step
+abbrev pub padded : Option ℕ → Step → Step
 padded o rest = elim o [ None ↦ rest | Some at ↦ Err (record { refusal = Padding; byte = at }) ]
 
 padded_ok : (o : Option ℕ) (rest : Step) (q : Progress) → padded o rest ≡ Ok q → (o ≡ None) × (rest ≡ Ok q)
 padded_ok None rest q e = (refl, e)
-padded_ok (Some at) rest q e = let z : ◌≡◌ {A = ℕ} 0 1 = cc in absurd (omega arith)
+padded_ok (Some at) rest q e = absurd cc
 
 zeros_ok : (k : ℕ) (bs : List ℕ) (rest : Step) (q : Progress) → zeros k bs rest ≡ Ok q → (nonzero k bs ≡ None) × (rest ≡ Ok q)
 zeros_ok k bs rest q e = padded_ok (nonzero k bs) rest q e

@@ -1,5 +1,5 @@
 -- One record: what an accepted one looks like, and that a laid out one is accepted.
-use Rattle.std.proofs.Common.{◌≡◌, ℕ, ◌+◌, ◌-◌, ◌<◌, ◌≤◌, max, Bool, true, false, not, ltb, List, ◌∷◌, ◌++◌, length, get_or, take, drop, replicate, ℤ, pos, negsuc, nat_abs, Some, None, Ok, Err, Option, sym, refl, ap, ◌∙◌, subst, arith, w32, w64, SFits, of_z}
+use Rattle.std.proofs.Common.{◌≡◌, ℕ, ◌+◌, ◌-◌, ◌<◌, ◌≤◌, max, Bool, true, false, not, ltb, List, ◌∷◌, ◌++◌, length, get_or, take, drop, replicate, ℤ, pos, negsuc, nat_abs, Some, None, Ok, Option, sym, refl, ap, ◌∙◌, subst, arith, w32, w64, SFits, of_z}
 use mir.Facts.{sfits_lit}
 use Rattle.std.proofs.lemmas.List.{length-drop}
 use Rattle.std.proofs.lemmas.Bool.{eq-eqb, lt-ltb, le-ltb, le-leb, and_from}
@@ -11,14 +11,14 @@ use Rattle.planfile.specs.declared.progress.Stage.{Stage}
 use Rattle.planfile.specs.declared.reader.Bound.{Bound}
 use Rattle.planfile.specs.declared.reader.Quote.{Quote}
 use Rattle.planfile.specs.declared.refusal.Refusal.{Refusal}
-use Rattle.planfile.specs.declared.refusal.Refusal.TheVariants.{Letter, Number, Padding, Bounds, Weight}
+use Rattle.planfile.specs.declared.refusal.Refusal.TheVariants.{Letter, Number, Bounds, Weight}
 use Rattle.planfile.specs.Fields.{nonzero, price_of, spare_bytes}
 use Rattle.planfile.specs.Progress.{rank, within, before, place}
 use Rattle.planfile.specs.Records.{Step, refuse, stepped, class_line, weekend_line, book_line, bound_line, quote_line, limit_line, with_class, with_weekend, with_book, with_bound, with_quote, with_limit}
 use Rattle.planfile.specs.Description.{class_row, weekend_row, book_row, bound_row, quote_row, limit_row, low_first, price_bytes, Fitting, BoundStands, QuoteStands}
 use Rattle.planfile.specs.Reading.{bound_of, quote_of}
 use Rattle.planfile.proofs.Bytes.{Bytes, none_zeros, zeros_none, one_number, two_numbers, three_numbers, four_numbers, price_bytes_lem, price_back, zero_at, no_strain, strain_fits}
-use Rattle.planfile.proofs.Passed.{ClassOk, WeekendOk, BookOk, BoundOk}
+use Rattle.planfile.proofs.Passed.{padded, ClassOk, WeekendOk, BookOk, BoundOk}
 
 -- the bytes that must be zero are zero
 padding : (r : List ℕ) (i n k : ℕ) → length r ≡ 16 → 16 - i ≡ n → nonzero k (drop i r) ≡ None → drop i r ≡ replicate n 0
@@ -80,18 +80,15 @@ module _ (r : List ℕ) (long : length r ≡ 16) (p q : Progress) where
 -- a record that passes every test is accepted
 pass : (n : Refusal) (at : ℕ) (t : Bool) (rest s : Step) → t ≡ true → rest ≡ s → refuse n at (not t) rest ≡ s
 pass n at true rest s e h = h
-pass n at false rest s e h = let z : ◌≡◌ {A = ℕ} 0 1 = cc in absurd (omega arith)
+pass n at false rest s e h = absurd cc
 
 spared : (n : Refusal) (at : ℕ) (t : Bool) (rest s : Step) → t ≡ false → rest ≡ s → refuse n at t rest ≡ s
 spared n at false rest s e h = h
-spared n at true rest s e h = let z : ◌≡◌ {A = ℕ} 0 1 = cc in absurd (omega arith)
-
-abbrev padded : Option ℕ → Step → Step
-padded o rest = elim o [ None ↦ rest | Some at ↦ Err (record { refusal = Padding; byte = at }) ]
+spared n at true rest s e h = absurd cc
 
 clear : (o : Option ℕ) (rest s : Step) → o ≡ None → rest ≡ s → padded o rest ≡ s
 clear None rest s e h = h
-clear (Some at) rest s e h = let z : ◌≡◌ {A = ℕ} 0 1 = cc in absurd (omega arith)
+clear (Some at) rest s e h = absurd cc
 
 may : (low high : ℕ) (s : Stage) → low ≤ rank s → rank s ≤ high → within low high s ≡ true
 unfolding within

@@ -8,8 +8,6 @@ use Rattle.planfile.specs.declared.progress.FileKind.{FileKind}
 use Rattle.planfile.specs.declared.progress.Stage.{Stage}
 use Rattle.planfile.specs.declared.progress.Progress.{Progress}
 use Rattle.planfile.specs.declared.refusal.Fault.{Fault}
-use Rattle.planfile.specs.declared.refusal.Spot.{Spot}
-use Rattle.planfile.specs.Refusals.{fault_at}
 use Rattle.planfile.specs.Fields.{price_of}
 use Rattle.planfile.specs.Progress.{rank, within, start}
 use Rattle.planfile.specs.Records.{Step, stepped}
@@ -41,11 +39,11 @@ step_placed k p q r e = accepted_placed k p q r (accepted k p q r e)
 
 pub turned_ok : (i : ℕ) (next : Progress → Result Progress Fault) (s : Step) (q : Progress) → turned i next s ≡ Ok q → (m : Progress) × (s ≡ Ok m) × (next m ≡ Ok q)
 turned_ok i next (Ok m) q h = (m, refl, h)
-turned_ok i next (Err s) q h = let z : ◌≡◌ {A = ℕ} 0 1 = cc in absurd (omega arith)
+turned_ok i next (Err s) q h = absurd cc
 
 ended : (b : Bool) (i : ℕ) (p q : Progress) (f : Fault) → cond b (Ok p) (Err f) ≡ Ok q → (b ≡ true) × (p ≡ q)
 ended true i p q f e = (refl, cc)
-ended false i p q f e = let z : ◌≡◌ {A = ℕ} 0 1 = cc in absurd (omega arith)
+ended false i p q f e = absurd cc
 
 pub finished_ok : (i : ℕ) (p q : Progress) → finished i p ≡ Ok q → (eqb (rank p.stage) 6 ≡ true) × (p ≡ q)
 finished_ok i p q h = ended _ i p q _ h
@@ -60,17 +58,26 @@ walked_placed k i p q (r ∷ rs) h =
     let b = walked_placed k (i + 1) t.0 q rs t.2 in
     omega arith
 
+-- one turn by itself
+pub turn_ok : (i : ℕ) (s : Step) (q : Progress) → turned i Ok s ≡ Ok q → s ≡ Ok q
+turn_ok i (Ok m) q h = let e : m ≡ q = cc in ap Ok e
+turn_ok i (Err s) q h = cc
+
+turn_err : (i : ℕ) (next : Progress → Result Progress Fault) (s : Step) (f : Fault) → turned i Ok s ≡ Err f → turned i next s ≡ Err f
+turn_err i next (Ok m) f h = cc
+turn_err i next (Err s) f h = h
+
 -- a loop over the records: what is left of them decides
 module _ (k : FileKind) (rs : List (List ℕ)) (i : ℕ) (p : Progress) (inv : walked k 0 start rs ≡ walked k i p (drop i rs)) where
   more : i < length rs → walked k 0 start rs ≡ turned i (λ q. walked k (i + 1) q (drop (i + 1) rs)) (stepped k p (get_or rs i []))
   unfolding walked
   more h = inv ∙ at_drop_more (walked k i p) rs i [] h
 
-  pub walk_on : (q : Progress) → i < length rs → stepped k p (get_or rs i []) ≡ Ok q → walked k 0 start rs ≡ walked k (i + 1) q (drop (i + 1) rs)
-  walk_on q h e = more h ∙ ap (turned i (λ m. walked k (i + 1) m (drop (i + 1) rs))) e
+  pub walk_on : (q : Progress) → i < length rs → turned i Ok (stepped k p (get_or rs i [])) ≡ Ok q → walked k 0 start rs ≡ walked k (i + 1) q (drop (i + 1) rs)
+  walk_on q h e = more h ∙ ap (turned i (λ m. walked k (i + 1) m (drop (i + 1) rs))) (turn_ok i _ q e)
 
-  pub walk_stop : (s : Spot) → i < length rs → stepped k p (get_or rs i []) ≡ Err s → walked k 0 start rs ≡ Err (fault_at i s)
-  walk_stop s h e = more h ∙ ap (turned i (λ m. walked k (i + 1) m (drop (i + 1) rs))) e
+  pub walk_stop : (f : Fault) → i < length rs → turned i Ok (stepped k p (get_or rs i [])) ≡ Err f → walked k 0 start rs ≡ Err f
+  walk_stop f h e = more h ∙ turn_err i (λ q. walked k (i + 1) q (drop (i + 1) rs)) _ f e
 
   pub walk_end : length rs ≡ i → walked k 0 start rs ≡ finished (length rs) p
   unfolding walked

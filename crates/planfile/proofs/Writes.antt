@@ -1,18 +1,14 @@
 -- One write after another.
-use Rattle.std.proofs.Common.{◌≡◌, ℕ, ◌+◌, ◌-◌, ◌/◌, ◌^◌, ◌<◌, ◌≤◌, false, ltb, List, [], ◌∷◌, ◌++◌, length, take, drop, set, Ok, decimal, Result, sym, refl, ap, ◌∙◌, subst, append_assoc, zero-add, add-one, arith}
-use Rattle.std.proofs.lemmas.Fmt.{length-decimal-le}
+use Rattle.std.proofs.Common.{◌≡◌, ℕ, ◌+◌, ◌-◌, ◌/◌, ◌≤◌, false, ltb, List, ◌++◌, length, take, drop, Ok, Result, sym, refl, ap, ◌∙◌, subst, append_assoc, zero-add, arith}
 use borrow.Rule.Slice.PartMut.{put_mid}
-use Rattle.std.proofs.lemmas.List.{length-append, length-take, length-drop, length-set, set_split, take_at, drop_at, drop-drop}
+use Rattle.std.proofs.lemmas.List.{length-append, length-take, length-drop, take_at, drop_at, drop-drop}
 use Rattle.std.proofs.lemmas.Bool.{le-ltb, cond-false}
+use Rattle.planfile.specs.declared.pen.Pen.{Pen}
 use Rattle.planfile.specs.declared.progress.FileKind.TheVariants.{Money}
 use Rattle.planfile.specs.declared.refusal.Fault.{Fault}
 use Rattle.planfile.specs.Description.{Description}
 use Rattle.planfile.specs.Reading.{read_file}
-use Rattle.planfile.specs.Lines.{overwritten, Wrote, report, report_text, report_answer, report_sheet}
-
-pub wrote_byte : (s : List ℕ) (at b : ℕ) → at < length s → Wrote s at (b ∷ []) (set s at b) (at + 1)
-unfolding overwritten
-wrote_byte s at b h = record { bytes = set_split s at b h ∙ rw add-one refl; end = refl; room = omega arith; long = length-set s at b }
+use Rattle.planfile.specs.Lines.{overwritten, Wrote, Writes, report, report_text, report_answer, report_sheet}
 
 -- after `out[at..end].copy_from_slice(t)`
 pub wrote_text : (s t y : List ℕ) (at : ℕ) → y ≡ t → at + length t ≤ length s → Wrote s at t (put_mid at (at + length t - at) s y) (at + length t)
@@ -53,8 +49,9 @@ wrote_then {s} {at} {a} {s1} {at1} {b} {s2} {at2} p q =
       long = q.long ∙ p.long;
     }
 
-pub word_digits : (n : ℕ) → n < 2 ^ 64 → length (decimal n) ≤ 20
-word_digits n h = length-decimal-le 20 n (omega arith) (omega arith) h
+-- the same of a pen
+pub writes_then : {p q r : Pen} {a b : List ℕ} → Writes p a q → Writes q b r → Writes p (a ++ b) r
+writes_then x y = record { same = y.same ∙ x.same; wrote = wrote_then x.wrote y.wrote }
 
 pub wrote_as : {s : List ℕ} {at : ℕ} {a b t : List ℕ} {n : ℕ} → a ≡ b → Wrote s at a t n → Wrote s at b t n
 wrote_as {s} {at} {a} {b} {t} {n} e w = subst (λ x. Wrote s at x t n) e w

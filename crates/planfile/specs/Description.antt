@@ -1,8 +1,7 @@
 -- What a plan file describes, and how a description is laid out in bytes.
 -- A reader must believe this page and the numbers in it; everything else about the file is proved against it.
 use Rattle.std.specs.Prelude.{◌≡◌, ℕ, zero, suc, ◌+◌, ◌/◌, ◌%◌, ◌<◌, ◌≤◌, max, ◌⊎◌, List, [], ◌∷◌, ◌++◌, map, length, replicate, pos, FitsSigned, unsigned_abs}
-use Rattle.std.proofs.Common.{of_z}
-use Rattle.std.specs.Int.{w32, w64}
+use Rattle.std.specs.Int.{w32, w64, cast_unsigned}
 use Rattle.std.specs.List.{flat_map, AllByRecursion}
 use Rattle.planfile.specs.declared.fields.Price.{Price}
 use Rattle.planfile.specs.declared.progress.FileKind.{FileKind}
@@ -27,7 +26,7 @@ low_first (suc k) n = (n % 256) ∷ low_first k (n / 256)
 
 -- strain in four bytes and money in eight, in two's complement
 abbrev pub price_bytes : Price → List ℕ
-price_bytes p = low_first 4 (of_z w32 p.strain) ++ low_first 8 (of_z w64 p.money)
+price_bytes p = low_first 4 (cast_unsigned w32 p.strain) ++ low_first 8 (cast_unsigned w64 p.money)
 
 -- the record of each kind: its letter (C, W, B, N, Q, L), its numbers, and zeros up to 16 bytes
 abbrev pub class_row : ℕ → ℕ → List ℕ

@@ -1,5 +1,6 @@
 -- Text on a lent sheet of bytes, and the lines of a report. Every line ends with byte 10.
 use Rattle.std.specs.Prelude.{◌≡◌, ℕ, ◌+◌, ◌/◌, ◌≤◌, cond, List, [], ◌∷◌, ◌++◌, length, take, drop, Ok, Err, codes, decimal, Result, nat_lt}
+use Rattle.planfile.specs.declared.pen.Pen.{Pen}
 use Rattle.planfile.specs.declared.progress.FileKind.TheVariants.{Money}
 use Rattle.planfile.specs.declared.reader.Counts.{Counts}
 use Rattle.planfile.specs.declared.refusal.Fault.{Fault}
@@ -18,6 +19,11 @@ pub record Wrote (sheet : List ℕ) (at : ℕ) (bs after : List ℕ) (next : ℕ
   pub end : next ≡ at + length bs
   pub room : next ≤ length sheet
   pub long : length after ≡ length sheet
+
+-- a pen wrote these bytes, and stands behind them on the same sheet
+pub record Writes (before : Pen) (bs : List ℕ) (after : Pen) : Type 0 where
+  pub same : after.sheet.ghost_name ≡ before.sheet.ghost_name
+  pub wrote : Wrote before.sheet.now before.at bs after.sheet.now after.at
 
 -- `refused 3 record 5 byte 2`
 unfoldable pub fault_line : Fault → List ℕ

@@ -8,6 +8,7 @@ use Rattle.planfile.specs.declared.progress.Stage.TheVariants.{Class, Weekend, B
 use Rattle.planfile.specs.declared.refusal.Refusal.{Refusal}
 use Rattle.planfile.specs.declared.refusal.Refusal.TheVariants.{Letter, Number, Padding, Bounds, Weight}
 use Rattle.planfile.specs.declared.refusal.Spot.{Spot}
+use Rattle.planfile.specs.Refusals.{spot}
 use Rattle.planfile.specs.Fields.{nonzero, price_of, spare_bytes}
 use Rattle.planfile.specs.Progress.{within, before, place}
 
@@ -15,31 +16,31 @@ abbrev pub Step : Type 0
 Step = Result Progress Spot
 
 -- this refusal at this byte where the test holds, else what follows
-abbrev pub refuse : Refusal → ℕ → Bool → Step → Step
-refuse n at test rest = cond test (Err (record { refusal = n; byte = at })) rest
+abbrev pub refuse : {X : Type 0} → Refusal → ℕ → Bool → Result X Spot → Result X Spot
+refuse n at test rest = cond test (Err (spot n at)) rest
 
 -- a refusal at the first byte from place k on that is not zero
-abbrev pub zeros : ℕ → List ℕ → Step → Step
-zeros k bs rest = elim (nonzero k bs) [ None ↦ rest | Some at ↦ Err (record { refusal = Padding; byte = at }) ]
+abbrev pub zeros : {X : Type 0} → ℕ → List ℕ → Result X Spot → Result X Spot
+zeros k bs rest = elim (nonzero k bs) [ None ↦ rest | Some at ↦ Err (spot Padding at) ]
 
 -- what the file has come to with one record more of each kind
 abbrev pub with_class : Progress → ℕ → Progress
-with_class p class = record { stage = Class; classes = class + 1; weekends = p.weekends; books = p.books; bounds = p.bounds; quotes = p.quotes; next_bound = p.next_bound; next_quote = p.next_quote }
+with_class p class = record p { stage = Class; classes = class + 1 }
 
 abbrev pub with_weekend : Progress → ℕ → Progress
-with_weekend p weekend = record { stage = Weekend; classes = p.classes; weekends = weekend + 1; books = p.books; bounds = p.bounds; quotes = p.quotes; next_bound = p.next_bound; next_quote = p.next_quote }
+with_weekend p weekend = record p { stage = Weekend; weekends = weekend + 1 }
 
 abbrev pub with_book : Progress → ℕ → Progress
-with_book p book = record { stage = Book; classes = p.classes; weekends = p.weekends; books = book + 1; bounds = p.bounds; quotes = p.quotes; next_bound = p.next_bound; next_quote = p.next_quote }
+with_book p book = record p { stage = Book; books = book + 1 }
 
 abbrev pub with_bound : Progress → ℕ → ℕ → Progress
-with_bound p weekend class = record { stage = Bound; classes = p.classes; weekends = p.weekends; books = p.books; bounds = p.bounds + 1; quotes = p.quotes; next_bound = place weekend (class + 1); next_quote = p.next_quote }
+with_bound p weekend class = record p { stage = Bound; bounds = p.bounds + 1; next_bound = place weekend (class + 1) }
 
 abbrev pub with_quote : Progress → ℕ → ℕ → Progress
-with_quote p book weekend = record { stage = Quote; classes = p.classes; weekends = p.weekends; books = p.books; bounds = p.bounds; quotes = p.quotes + 1; next_bound = p.next_bound; next_quote = place book (weekend + 1) }
+with_quote p book weekend = record p { stage = Quote; quotes = p.quotes + 1; next_quote = place book (weekend + 1) }
 
 abbrev pub with_limit : Progress → Progress
-with_limit p = record { stage = Limit; classes = p.classes; weekends = p.weekends; books = p.books; bounds = p.bounds; quotes = p.quotes; next_bound = p.next_bound; next_quote = p.next_quote }
+with_limit p = record p { stage = Limit }
 
 -- one class more: its number counts up from 0, and its parent is a class before it (class 0 is its own)
 abbrev pub class_record : Progress → ℕ → ℕ → List ℕ → Step
@@ -124,7 +125,7 @@ by_letter letter k p r =
     (cond (letter == 78) (bound_line p r)
     (cond (letter == 81) (quote_line k p r)
     (cond (letter == 76) (limit_line k p r)
-    (Err (record { refusal = Letter; byte = 0 })))))))
+    (Err (spot Letter 0)))))))
 
 unfoldable pub stepped : FileKind → Progress → List ℕ → Step
 stepped k p r = by_letter (slice_index r 0) k p r

@@ -15,6 +15,10 @@ number_of Bounds = 6
 number_of Weight = 7
 number_of Sheet = 8
 
+-- a refusal told at this byte of a record
+abbrev pub spot : Refusal → ℕ → Spot
+spot n at = record { refusal = n; byte = at }
+
 -- a refusal told at this record and byte
 abbrev pub fault : Refusal → ℕ → ℕ → Fault
 fault n i at = record { refusal = n; «record» = i; byte = at }

@@ -1,8 +1,10 @@
 // The fields of one record that are longer than a byte, and the bytes that must be zero.
-ghost use Rattle.std.specs.Prelude.{◌≡◌, ◌+◌, ◌≤◌, length};
-ghost use Rattle.planfile.specs.Fields.{nonzero, strain as strain_of, money as money_of, price_of, spare_bytes as the_spare_bytes};
+ghost use Rattle.std.specs.Prelude.{◌≡◌, ◌≤◌, ◌==◌, not, drop, position, slice_range, Ok};
+ghost use Rattle.planfile.specs.Fields.{strain as strain_of, money as money_of, price_of, spare_bytes as the_spare_bytes};
+ghost use Rattle.planfile.specs.Records.{zeros as the_zeros};
 
 use crate::progress::FileKind;
+use crate::refusal::{Refusal, Spot};
 
 // An amount as a record holds it. Strain is zero in a money file.
 #[derive(Clone, Copy, PartialEq, Eq, Debug)]
@@ -11,19 +13,31 @@ pub struct Price {
     pub money: i64,
 }
 
-// The place of the first byte that is not zero, where `bytes` begins at place `from`.
-pub(crate) fn first_nonzero(from: u8, bytes: &[u8]) -> Option<u8>
-    requires { from + length bytes.now ≤ 16 }
-    ensures { result ≡ nonzero from bytes.now }
+fn first_nonzero(bytes: &[u8]) -> Option<usize>
+    ensures { result ≡ position (λ b. not (b == 0)) bytes.now }
 {
-    let mut place = from;
-    for b in bytes {
-        if *b != 0 {
-            return Some(place);
-        }
-        place += 1;
+    bytes.iter().position(|b| *b != 0)
+}
+
+// Refuses the first byte of a record from place `from` up to `to` that is not zero.
+#[tactic(auto, using(crate::proofs::Bytes::nonzero_position))]
+pub(crate) fn zeros(raw: &[u8; 16], from: usize, to: usize) -> Result<(), Spot>
+    requires in_order { from ≤ to }
+    requires in_record { to ≤ 16 }
+    ensures { result ≡ the_zeros from (slice_range raw.now from to) (Ok tt) }
+{
+    match first_nonzero(&raw[from..to]) {
+        Some(i) => Err(Refusal::Padding.at((from + i) as u8)),
+        None => Ok(()),
     }
-    None
+}
+
+// The same of all bytes from place `from` on.
+pub(crate) fn zeros_from(raw: &[u8; 16], from: usize) -> Result<(), Spot>
+    requires { from ≤ 16 }
+    ensures { result ≡ the_zeros from (drop from raw.now) (Ok tt) }
+{
+    zeros(raw, from, 16)
 }
 
 // How many bytes from the third on must be zero in a quote.
@@ -38,33 +52,29 @@ pub(crate) fn spare_bytes(kind: FileKind) -> usize
 }
 
 // Bytes 4 to 7 of a record.
-fn strain(raw: &[u8]) -> i32
-    requires { length raw.now ≡ 16 }
+#[tactic(auto, unfolding(crate::specs::Fields::strain))]
+fn strain(raw: &[u8; 16]) -> i32
     ensures { result ≡ strain_of raw.now }
 {
-    let [_, _, _, _, a, b, c, d, ..] = raw else {
-        unreachable()
-    };
+    let [_, _, _, _, a, b, c, d, ..] = raw;
     i32::from_le_bytes([*a, *b, *c, *d])
 }
 
 // Bytes 8 to 15 of a record.
-fn money(raw: &[u8]) -> i64
-    requires { length raw.now ≡ 16 }
+#[tactic(auto, unfolding(crate::specs::Fields::money))]
+fn money(raw: &[u8; 16]) -> i64
     ensures { result ≡ money_of raw.now }
 {
-    let [.., a, b, c, d, e, f, g, h] = raw else {
-        unreachable()
-    };
+    let [.., a, b, c, d, e, f, g, h] = raw;
     i64::from_le_bytes([*a, *b, *c, *d, *e, *f, *g, *h])
 }
 
 // Bytes 4 to 15 of a record.
-pub(crate) fn read_price(raw: &[u8]) -> Price
-    requires { length raw.now ≡ 16 }
+pub(crate) fn read_price(raw: &[u8; 16]) -> Price
     ensures { result ≡ price_of raw.now }
 {
-    let strain = strain(raw);
-    let money = money(raw);
-    Price { strain, money }
+    Price {
+        strain: strain(raw),
+        money: money(raw),
+    }
 }

@@ -1,9 +1,10 @@
 // Reading a whole file: its first fault, or what it describes.
-ghost use Rattle.std.specs.Prelude.{◌≡◌, ◌+◌, ◌≤◌, length};
-ghost use Rattle.planfile.specs.Progress.{start as start_of};
+ghost use Rattle.std.specs.Prelude.{◌≡◌, ◌+◌, ◌<◌, ◌≤◌, length, Ok};
+ghost use Rattle.planfile.specs.Progress.{start};
+ghost use Rattle.planfile.specs.Records.{stepped};
 ghost use Rattle.std.specs.List.{slice_get};
 ghost use Rattle.planfile.specs.Laws.{Tells};
-ghost use Rattle.planfile.specs.Reading.{second_number as the_second_number, bound_of as the_bound_of, quote_of as the_quote_of, counts_of, finished, walked, body, sectioned, described, answered, bad_size, read_file};
+ghost use Rattle.planfile.specs.Reading.{second_number as the_second_number, bound_of as the_bound_of, quote_of as the_quote_of, counts_of, finished, turned, walked, body, sectioned, described, answered, read_file};
 
 use crate::fields::{Price, read_price};
 use crate::progress::{FileKind, Progress, Stage};
@@ -65,40 +66,28 @@ impl PlanFile<'_> {
     pub fn parent(&self, class: usize) -> Option<u8>
         ensures { result ≡ slice_get (described self.now).parents class }
     {
-        if class >= self.classes.len() {
-            return None;
-        }
-        Some(second_number(&self.classes[class]))
+        self.classes.get(class).map(second_number)
     }
 
     // The class of a book. None where the file names no such book.
     pub fn class(&self, book: usize) -> Option<u8>
         ensures { result ≡ slice_get (described self.now).classes book }
     {
-        if book >= self.books.len() {
-            return None;
-        }
-        Some(second_number(&self.books[book]))
+        self.books.get(book).map(second_number)
     }
 
     // The bound at this place of the file's bounds, if there is one.
     pub fn bound(&self, at: usize) -> Option<Bound>
         ensures { result ≡ slice_get (described self.now).bounds at }
     {
-        if at >= self.bounds.len() {
-            return None;
-        }
-        Some(bound_of(&self.bounds[at]))
+        self.bounds.get(at).map(bound_of)
     }
 
     // The quote at this place of the file's quotes, if there is one.
     pub fn quote(&self, at: usize) -> Option<Quote>
         ensures { result ≡ slice_get (described self.now).quotes at }
     {
-        if at >= self.quotes.len() {
-            return None;
-        }
-        Some(quote_of(&self.quotes[at]))
+        self.quotes.get(at).map(quote_of)
     }
 
     // What the sum of the quotes of a plan may come to.
@@ -112,31 +101,29 @@ impl PlanFile<'_> {
 fn second_number(raw: &[u8; 16]) -> u8
     ensures { result ≡ the_second_number raw.now }
 {
-    let [_, _, number, ..] = raw;
-    *number
+    raw[2]
 }
 
 fn bound_of(raw: &[u8; 16]) -> Bound
     ensures { result ≡ the_bound_of raw.now }
 {
-    let [_, weekend, class, lower, upper, ..] = raw;
+    let [_, weekend, class, lower, upper, ..] = *raw;
     Bound {
-        weekend: *weekend,
-        class: *class,
-        lower: *lower,
-        upper: *upper,
+        weekend,
+        class,
+        lower,
+        upper,
     }
 }
 
 fn quote_of(raw: &[u8; 16]) -> Quote
     ensures { result ≡ the_quote_of raw.now }
 {
-    let price = read_price(&raw[..]);
-    let [_, book, weekend, ..] = raw;
+    let [_, book, weekend, ..] = *raw;
     Quote {
-        book: *book,
-        weekend: *weekend,
-        price,
+        book,
+        weekend,
+        price: read_price(raw),
     }
 }
 
@@ -146,25 +133,18 @@ fn finish(count: usize, so_far: Progress) -> Result<Progress, Fault>
 {
     match so_far.stage {
         Stage::Limit => Ok(so_far),
-        _ => Err(Fault {
-            refusal: Refusal::Letter,
-            record: count,
-            byte: 0,
-        }),
+        _ => Err(Refusal::Letter.at(0).in_record(count)),
     }
 }
 
 // The first fault of the records, or how many there are of each kind.
 fn walk(kind: FileKind, rows: &[[u8; 16]]) -> Result<Progress, Fault>
     requires { length rows.now ≤ 2193 }
-    ensures { result ≡ walked kind 0 start_of rows.now }
+    ensures { result ≡ walked kind 0 start rows.now }
 {
-    let mut so_far = Progress::start();
+    let mut so_far = Progress::default();
     for (i, raw) in rows.iter().enumerate() {
-        match step(kind, so_far, &raw[..]) {
-            Ok(next) => so_far = next,
-            Err(spot) => return Err(spot.in_record(i)),
-        }
+        so_far = step(kind, so_far, raw).map_err(|spot| spot.in_record(i))?;
     }
     finish(rows.len(), so_far)
 }
@@ -174,28 +154,19 @@ fn sections(rows: &[[u8; 16]], end: Progress) -> PlanFile<'_>
     requires { body end + 1 ≡ length rows.now }
     ensures { described result ≡ sectioned end rows.now }
 {
-    let classes = end.classes as usize;
-    let weekends = end.weekends as usize;
-    let books_at = classes + weekends;
-    let bounds_at = books_at + end.books as usize;
-    let quotes_at = bounds_at + end.bounds as usize;
-    let limit_at = quotes_at + end.quotes as usize;
-    let limit = read_price(&rows[limit_at][..]);
+    let (classes, rest) = rows.split_at(usize::from(end.classes));
+    let (weekends, rest) = rest.split_at(usize::from(end.weekends));
+    let (books, rest) = rest.split_at(usize::from(end.books));
+    let (bounds, rest) = rest.split_at(usize::from(end.bounds));
+    let (quotes, rest) = rest.split_at(usize::from(end.quotes));
     PlanFile {
-        classes: &rows[0..classes],
-        weekends,
-        books: &rows[books_at..bounds_at],
-        bounds: &rows[bounds_at..quotes_at],
-        quotes: &rows[quotes_at..limit_at],
-        limit,
+        classes,
+        weekends: weekends.len(),
+        books,
+        bounds,
+        quotes,
+        limit: read_price(&rest[0]),
     }
-}
-
-fn is_bad_size(file: &[u8]) -> bool
-    ensures { result ≡ bad_size file.now }
-{
-    let len = file.len();
-    len == 0 || len % 16 != 0 || len > 35088
 }
 
 // What the file describes, or its first fault: a file is accepted exactly when it is the layout of a proper
@@ -204,16 +175,10 @@ pub fn read(kind: FileKind, file: &[u8]) -> Result<PlanFile<'_>, Fault>
     ensures answer { answered result ≡ read_file kind file.now }
     ensures tells { Tells kind file.now (answered result) }
 {
-    if is_bad_size(file) {
-        return Err(Fault {
-            refusal: Refusal::Size,
-            record: 0,
-            byte: 0,
-        });
+    let (rows, rest) = file.as_chunks::<16>();
+    if rows.is_empty() || !rest.is_empty() || rows.len() > 2193 {
+        return Err(Refusal::Size.at(0).in_record(0));
     }
-    let (rows, _) = file.as_chunks::<16>();
-    match walk(kind, rows) {
-        Ok(end) => Ok(sections(rows, end)),
-        Err(fault) => Err(fault),
-    }
+    let end = walk(kind, rows)?;
+    Ok(sections(rows, end))
 }

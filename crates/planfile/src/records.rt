@@ -1,40 +1,40 @@
 // One record after another: the first fault of each, or what the file has come to with it.
-ghost use Rattle.std.specs.Prelude.{◌≡◌, ◌<◌, ◌≤◌, length};
-ghost use Rattle.planfile.specs.Records.{class_record as the_class_record, weekend_record as the_weekend_record, book_record as the_book_record, bound_record as the_bound_record, quote_record as the_quote_record, limit_record as the_limit_record};
-ghost use Rattle.planfile.specs.Records.{class_line, weekend_line, book_line, bound_line, quote_line, limit_line, stepped};
+ghost use Rattle.std.specs.Prelude.{◌≡◌, ◌<◌, ◌&&◌, ◌==◌, nat_lt, not, Ok};
+ghost use Rattle.planfile.specs.Progress.{rank, within};
+ghost use Rattle.planfile.specs.Records.{refuse, class_line, weekend_line, book_line, bound_line, quote_line, limit_line, stepped};
+ghost use Rattle.planfile.specs.declared.refusal.Refusal.TheVariants.{Letter, Number};
 
-use crate::fields::{Price, first_nonzero, read_price, spare_bytes};
+use crate::fields::{read_price, spare_bytes, zeros, zeros_from};
 use crate::progress::{FileKind, Place, Progress, Stage};
 use crate::refusal::{Refusal, Spot};
 
-fn class_record(so_far: Progress, class: u8, parent: u8, rest: &[u8]) -> Result<Progress, Spot>
-    requires { length rest.now ≡ 13 }
-    ensures { result ≡ the_class_record so_far class parent rest.now }
+// The letter may stand where the file has come to one of the stages from `first` to `last`.
+fn letter_may_follow(so_far: Progress, first: Stage, last: Stage) -> Result<(), Spot>
+    ensures { result ≡ refuse Letter 0 (not (within (rank first) (rank last) so_far.stage)) (Ok tt) }
 {
-    if !so_far.stage.may_class() {
-        return Err(Spot {
-            refusal: Refusal::Letter,
-            byte: 0,
-        });
-    }
-    if let Some(byte) = first_nonzero(3, rest) {
-        return Err(Spot {
-            refusal: Refusal::Padding,
-            byte,
-        });
-    }
-    if class != so_far.classes || class >= 8 {
-        return Err(Spot {
-            refusal: Refusal::Number,
-            byte: 1,
-        });
-    }
-    if parent >= class.max(1) {
-        return Err(Spot {
-            refusal: Refusal::Number,
-            byte: 2,
-        });
-    }
+    Refusal::Letter
+        .at(0)
+        .when(!so_far.stage.is_within(first, last))
+}
+
+// A class, weekend or book has the number that comes next, and one below `most`.
+fn next_in_turn(number: u8, so_far: u8, most: u8) -> Result<(), Spot>
+    ensures { result ≡ refuse Number 1 (not (number == so_far && nat_lt number most)) (Ok tt) }
+{
+    Refusal::Number
+        .at(1)
+        .when(number != so_far || number >= most)
+}
+
+#[tactic(auto, unfolding(crate::specs::Records::class_line))]
+fn take_class(so_far: Progress, raw: &[u8; 16]) -> Result<Progress, Spot>
+    ensures { result ≡ class_line so_far raw.now }
+{
+    let [_, class, parent, ..] = *raw;
+    letter_may_follow(so_far, Stage::Start, Stage::Class)?;
+    zeros_from(raw, 3)?;
+    next_in_turn(class, so_far.classes, 8)?;
+    Refusal::Number.at(2).when(parent >= class.max(1))?;
     Ok(Progress {
         stage: Stage::Class,
         classes: class + 1,
@@ -42,28 +42,14 @@ fn class_record(so_far: Progress, class: u8, parent: u8, rest: &[u8]) -> Result<
     })
 }
 
-fn weekend_record(so_far: Progress, weekend: u8, rest: &[u8]) -> Result<Progress, Spot>
-    requires { length rest.now ≡ 14 }
-    ensures { result ≡ the_weekend_record so_far weekend rest.now }
+#[tactic(auto, unfolding(crate::specs::Records::weekend_line))]
+fn take_weekend(so_far: Progress, raw: &[u8; 16]) -> Result<Progress, Spot>
+    ensures { result ≡ weekend_line so_far raw.now }
 {
-    if !so_far.stage.may_weekend() {
-        return Err(Spot {
-            refusal: Refusal::Letter,
-            byte: 0,
-        });
-    }
-    if let Some(byte) = first_nonzero(2, rest) {
-        return Err(Spot {
-            refusal: Refusal::Padding,
-            byte,
-        });
-    }
-    if weekend != so_far.weekends || weekend >= 16 {
-        return Err(Spot {
-            refusal: Refusal::Number,
-            byte: 1,
-        });
-    }
+    let [_, weekend, ..] = *raw;
+    letter_may_follow(so_far, Stage::Class, Stage::Weekend)?;
+    zeros_from(raw, 2)?;
+    next_in_turn(weekend, so_far.weekends, 16)?;
     Ok(Progress {
         stage: Stage::Weekend,
         weekends: weekend + 1,
@@ -71,34 +57,15 @@ fn weekend_record(so_far: Progress, weekend: u8, rest: &[u8]) -> Result<Progress
     })
 }
 
-fn book_record(so_far: Progress, book: u8, class: u8, rest: &[u8]) -> Result<Progress, Spot>
-    requires { length rest.now ≡ 13 }
-    ensures { result ≡ the_book_record so_far book class rest.now }
+#[tactic(auto, unfolding(crate::specs::Records::book_line))]
+fn take_book(so_far: Progress, raw: &[u8; 16]) -> Result<Progress, Spot>
+    ensures { result ≡ book_line so_far raw.now }
 {
-    if !so_far.stage.may_book() {
-        return Err(Spot {
-            refusal: Refusal::Letter,
-            byte: 0,
-        });
-    }
-    if let Some(byte) = first_nonzero(3, rest) {
-        return Err(Spot {
-            refusal: Refusal::Padding,
-            byte,
-        });
-    }
-    if book != so_far.books || book >= 120 {
-        return Err(Spot {
-            refusal: Refusal::Number,
-            byte: 1,
-        });
-    }
-    if class >= so_far.classes {
-        return Err(Spot {
-            refusal: Refusal::Number,
-            byte: 2,
-        });
-    }
+    let [_, book, class, ..] = *raw;
+    letter_may_follow(so_far, Stage::Weekend, Stage::Book)?;
+    zeros_from(raw, 3)?;
+    next_in_turn(book, so_far.books, 120)?;
+    Refusal::Number.at(2).when(class >= so_far.classes)?;
     Ok(Progress {
         stage: Stage::Book,
         books: book + 1,
@@ -106,247 +73,96 @@ fn book_record(so_far: Progress, book: u8, class: u8, rest: &[u8]) -> Result<Pro
     })
 }
 
-fn bound_record(
-    so_far: Progress,
-    weekend: u8,
-    class: u8,
-    lower: u8,
-    upper: u8,
-    rest: &[u8],
-) -> Result<Progress, Spot>
-    requires rest { length rest.now ≡ 11 }
-    requires few { so_far.bounds < 2193 }
-    ensures { result ≡ the_bound_record so_far weekend class lower upper rest.now }
+#[tactic(auto, unfolding(crate::specs::Records::bound_line, crate::specs::Progress::before))]
+fn take_bound(so_far: Progress, raw: &[u8; 16]) -> Result<Progress, Spot>
+    requires { so_far.bounds < 2193 }
+    ensures { result ≡ bound_line so_far raw.now }
 {
-    if !so_far.stage.may_bound() {
-        return Err(Spot {
-            refusal: Refusal::Letter,
-            byte: 0,
-        });
-    }
-    if let Some(byte) = first_nonzero(5, rest) {
-        return Err(Spot {
-            refusal: Refusal::Padding,
-            byte,
-        });
-    }
-    if weekend >= so_far.weekends {
-        return Err(Spot {
-            refusal: Refusal::Number,
-            byte: 1,
-        });
-    }
+    let [_, weekend, class, lower, upper, ..] = *raw;
     let place = Place {
         row: weekend,
         column: class,
     };
-    if place.before(so_far.next_bound) {
-        return Err(Spot {
-            refusal: Refusal::Number,
-            byte: 1,
-        });
-    }
-    if class >= so_far.classes {
-        return Err(Spot {
-            refusal: Refusal::Number,
-            byte: 2,
-        });
-    }
-    if lower > upper || upper > 120 {
-        return Err(Spot {
-            refusal: Refusal::Bounds,
-            byte: 3,
-        });
-    }
+    letter_may_follow(so_far, Stage::Book, Stage::Bound)?;
+    zeros_from(raw, 5)?;
+    Refusal::Number.at(1).when(weekend >= so_far.weekends)?;
+    Refusal::Number.at(1).when(place < so_far.next_bound)?;
+    Refusal::Number.at(2).when(class >= so_far.classes)?;
+    Refusal::Bounds.at(3).when(lower > upper || upper > 120)?;
     Ok(Progress {
         stage: Stage::Bound,
         bounds: so_far.bounds + 1,
         next_bound: Place {
-            row: weekend,
             column: class + 1,
+            ..place
         },
         ..so_far
     })
 }
 
-fn quote_record(
-    so_far: Progress,
-    book: u8,
-    weekend: u8,
-    spare: &[u8],
-    price: Price,
-) -> Result<Progress, Spot>
-    requires spare { length spare.now ≤ 5 }
-    requires few { so_far.quotes < 2193 }
-    ensures { result ≡ the_quote_record so_far book weekend spare.now price }
+#[tactic(auto, unfolding(crate::specs::Records::quote_line, crate::specs::Progress::before))]
+fn take_quote(kind: FileKind, so_far: Progress, raw: &[u8; 16]) -> Result<Progress, Spot>
+    requires { so_far.quotes < 2193 }
+    ensures { result ≡ quote_line kind so_far raw.now }
 {
-    if !so_far.stage.may_quote() {
-        return Err(Spot {
-            refusal: Refusal::Letter,
-            byte: 0,
-        });
-    }
-    if let Some(byte) = first_nonzero(3, spare) {
-        return Err(Spot {
-            refusal: Refusal::Padding,
-            byte,
-        });
-    }
-    if book >= so_far.books {
-        return Err(Spot {
-            refusal: Refusal::Number,
-            byte: 1,
-        });
-    }
+    let [_, book, weekend, ..] = *raw;
+    let price = read_price(raw);
     let place = Place {
         row: book,
         column: weekend,
     };
-    if place.before(so_far.next_quote) {
-        return Err(Spot {
-            refusal: Refusal::Number,
-            byte: 1,
-        });
-    }
-    if weekend >= so_far.weekends {
-        return Err(Spot {
-            refusal: Refusal::Number,
-            byte: 2,
-        });
-    }
-    if price.strain.unsigned_abs() > 1_000_000_000 {
-        return Err(Spot {
-            refusal: Refusal::Weight,
-            byte: 4,
-        });
-    }
-    if price.money.unsigned_abs() > 1_000_000_000 {
-        return Err(Spot {
-            refusal: Refusal::Weight,
-            byte: 8,
-        });
-    }
+    letter_may_follow(so_far, Stage::Book, Stage::Quote)?;
+    zeros(raw, 3, 3 + spare_bytes(kind))?;
+    Refusal::Number.at(1).when(book >= so_far.books)?;
+    Refusal::Number.at(1).when(place < so_far.next_quote)?;
+    Refusal::Number.at(2).when(weekend >= so_far.weekends)?;
+    Refusal::Weight
+        .at(4)
+        .when(price.strain.unsigned_abs() > 1_000_000_000)?;
+    Refusal::Weight
+        .at(8)
+        .when(price.money.unsigned_abs() > 1_000_000_000)?;
     Ok(Progress {
         stage: Stage::Quote,
         quotes: so_far.quotes + 1,
         next_quote: Place {
-            row: book,
             column: weekend + 1,
+            ..place
         },
         ..so_far
     })
 }
 
-fn limit_record(so_far: Progress, spare: &[u8], price: Price) -> Result<Progress, Spot>
-    requires { length spare.now ≤ 7 }
-    ensures { result ≡ the_limit_record so_far spare.now price }
+#[tactic(auto, unfolding(crate::specs::Records::limit_line))]
+fn take_limit(kind: FileKind, so_far: Progress, raw: &[u8; 16]) -> Result<Progress, Spot>
+    ensures { result ≡ limit_line kind so_far raw.now }
 {
-    if !so_far.stage.may_quote() {
-        return Err(Spot {
-            refusal: Refusal::Letter,
-            byte: 0,
-        });
-    }
-    if let Some(byte) = first_nonzero(1, spare) {
-        return Err(Spot {
-            refusal: Refusal::Padding,
-            byte,
-        });
-    }
-    if price.money.unsigned_abs() > 1_000_000_000_000 {
-        return Err(Spot {
-            refusal: Refusal::Weight,
-            byte: 8,
-        });
-    }
+    let price = read_price(raw);
+    letter_may_follow(so_far, Stage::Book, Stage::Quote)?;
+    zeros(raw, 1, 3 + spare_bytes(kind))?;
+    Refusal::Weight
+        .at(8)
+        .when(price.money.unsigned_abs() > 1_000_000_000_000)?;
     Ok(Progress {
         stage: Stage::Limit,
         ..so_far
     })
 }
 
-fn take_class(so_far: Progress, raw: &[u8]) -> Result<Progress, Spot>
-    requires { length raw.now ≡ 16 }
-    ensures { result ≡ class_line so_far raw.now }
-{
-    let [_, class, parent, rest @ ..] = raw else {
-        unreachable()
-    };
-    class_record(so_far, *class, *parent, rest)
-}
-
-fn take_weekend(so_far: Progress, raw: &[u8]) -> Result<Progress, Spot>
-    requires { length raw.now ≡ 16 }
-    ensures { result ≡ weekend_line so_far raw.now }
-{
-    let [_, weekend, rest @ ..] = raw else {
-        unreachable()
-    };
-    weekend_record(so_far, *weekend, rest)
-}
-
-fn take_book(so_far: Progress, raw: &[u8]) -> Result<Progress, Spot>
-    requires { length raw.now ≡ 16 }
-    ensures { result ≡ book_line so_far raw.now }
-{
-    let [_, book, class, rest @ ..] = raw else {
-        unreachable()
-    };
-    book_record(so_far, *book, *class, rest)
-}
-
-fn take_bound(so_far: Progress, raw: &[u8]) -> Result<Progress, Spot>
-    requires raw { length raw.now ≡ 16 }
-    requires few { so_far.bounds < 2193 }
-    ensures { result ≡ bound_line so_far raw.now }
-{
-    let [_, weekend, class, lower, upper, rest @ ..] = raw else {
-        unreachable()
-    };
-    bound_record(so_far, *weekend, *class, *lower, *upper, rest)
-}
-
-fn take_quote(kind: FileKind, so_far: Progress, raw: &[u8]) -> Result<Progress, Spot>
-    requires raw { length raw.now ≡ 16 }
-    requires few { so_far.quotes < 2193 }
-    ensures { result ≡ quote_line kind so_far raw.now }
-{
-    let price = read_price(raw);
-    let spare = spare_bytes(kind);
-    let [_, book, weekend, rest @ ..] = raw else {
-        unreachable()
-    };
-    quote_record(so_far, *book, *weekend, &rest[0..spare], price)
-}
-
-fn take_limit(kind: FileKind, so_far: Progress, raw: &[u8]) -> Result<Progress, Spot>
-    requires { length raw.now ≡ 16 }
-    ensures { result ≡ limit_line kind so_far raw.now }
-{
-    let price = read_price(raw);
-    let spare = spare_bytes(kind) + 2;
-    let [_, rest @ ..] = raw else { unreachable() };
-    limit_record(so_far, &rest[0..spare], price)
-}
-
 // One record more. Its first byte is a letter, and what the other bytes mean goes by that.
-pub(crate) fn step(kind: FileKind, so_far: Progress, raw: &[u8]) -> Result<Progress, Spot>
-    requires raw { length raw.now ≡ 16 }
+#[tactic(auto, unfolding(crate::specs::Records::stepped))]
+pub(crate) fn step(kind: FileKind, so_far: Progress, raw: &[u8; 16]) -> Result<Progress, Spot>
     requires bounds { so_far.bounds < 2193 }
     requires quotes { so_far.quotes < 2193 }
     ensures { result ≡ stepped kind so_far raw.now }
 {
-    let [letter, ..] = raw else { unreachable() };
-    match char::from(*letter) {
+    match char::from(raw[0]) {
         'C' => take_class(so_far, raw),
         'W' => take_weekend(so_far, raw),
         'B' => take_book(so_far, raw),
         'N' => take_bound(so_far, raw),
         'Q' => take_quote(kind, so_far, raw),
         'L' => take_limit(kind, so_far, raw),
-        _ => Err(Spot {
-            refusal: Refusal::Letter,
-            byte: 0,
-        }),
+        _ => Err(Refusal::Letter.at(0)),
     }
 }

@@ -1,24 +1,25 @@
 // Why a plan file, or a sheet lent for its report, is refused.
-ghost use Rattle.std.specs.Prelude.{◌≡◌};
-ghost use Rattle.planfile.specs.Refusals.{number_of, fault_at};
+ghost use Rattle.std.specs.Prelude.{◌≡◌, Ok};
+ghost use Rattle.planfile.specs.Refusals.{number_of, spot, fault_at};
+ghost use Rattle.planfile.specs.Records.{refuse};
 
 // The faults of this layer. What each number means is set out once, by `number_of` in specs.
 #[derive(Clone, Copy, PartialEq, Eq, Debug)]
 pub enum Refusal {
     // the file is empty, its length no multiple of 16, or it has too many records
-    Size,
+    Size = 1,
     // a letter is unknown or may not stand there, or the file ends early
-    Letter,
+    Letter = 2,
     // a number is out of range or out of order
-    Number,
+    Number = 3,
     // a byte that must be zero is not
-    Padding,
+    Padding = 4,
     // a lower bound exceeds its upper bound, or that exceeds the most books
-    Bounds,
+    Bounds = 6,
     // a quote or a limit weighs too much
-    Weight,
+    Weight = 7,
     // the sheet lent for the answer is too short
-    Sheet,
+    Sheet = 8,
 }
 
 impl Refusal {
@@ -26,14 +27,16 @@ impl Refusal {
     pub fn number(self) -> u8
         ensures { result ≡ number_of self }
     {
-        match self {
-            Refusal::Size => 1,
-            Refusal::Letter => 2,
-            Refusal::Number => 3,
-            Refusal::Padding => 4,
-            Refusal::Bounds => 6,
-            Refusal::Weight => 7,
-            Refusal::Sheet => 8,
+        self as u8
+    }
+
+    // The refusal told at this byte of a record.
+    pub(crate) fn at(self, byte: u8) -> Spot
+        ensures { result ≡ spot self byte }
+    {
+        Spot {
+            refusal: self,
+            byte,
         }
     }
 }
@@ -46,6 +49,13 @@ pub(crate) struct Spot {
 }
 
 impl Spot {
+    // The refusal, where this is so.
+    pub(crate) fn when(self, is_so: bool) -> Result<(), Spot>
+        ensures { result ≡ refuse self.refusal self.byte is_so (Ok tt) }
+    {
+        if is_so { Err(self) } else { Ok(()) }
+    }
+
     // The same, told of the file whose record number `index` this is.
     pub(crate) fn in_record(self, index: usize) -> Fault
         ensures { result ≡ fault_at index self }

@@ -1,5 +1,5 @@
 // The report of a money file, as lines of text on a lent sheet.
-ghost use Rattle.std.specs.Prelude.{◌≡◌, ◌+◌, ◌≤◌, ◌++◌, length, IfOk};
+ghost use Rattle.std.specs.Prelude.{◌≡◌, ◌≤◌, ◌++◌, length, IfOk};
 ghost use Rattle.planfile.specs.Lines.{Wrote, fault_line, accepted_line, counts_line, report_answer, report_sheet};
 
 use crate::pen::Pen;
@@ -7,49 +7,16 @@ use crate::progress::FileKind;
 use crate::reader::{Counts, read};
 use crate::refusal::{Fault, Refusal};
 
-impl Pen<'_> {
-    fn fault(&mut self, fault: Fault)
-        requires { self.old.at + 160 ≤ length self.old.sheet.now }
-        ensures same { self.new.sheet.ghost_name ≡ self.old.sheet.ghost_name }
-        ensures wrote { Wrote self.old.sheet.now self.old.at (fault_line fault) self.new.sheet.now self.new.at }
-    {
-        self.item(b"refused ", fault.refusal.number() as usize);
-        self.item(b" record ", fault.record);
-        self.item(b" byte ", fault.byte as usize);
-        self.end_line();
-    }
-
-    fn accepted(&mut self, records: usize)
-        requires { self.old.at + 160 ≤ length self.old.sheet.now }
-        ensures same { self.new.sheet.ghost_name ≡ self.old.sheet.ghost_name }
-        ensures short { self.new.at ≤ self.old.at + 160 }
-        ensures wrote { Wrote self.old.sheet.now self.old.at (accepted_line records) self.new.sheet.now self.new.at }
-    {
-        self.item(b"accepted ", records);
-        self.text(b" records");
-        self.end_line();
-    }
-
-    fn counts(&mut self, counts: Counts)
-        requires { self.old.at + 160 ≤ length self.old.sheet.now }
-        ensures same { self.new.sheet.ghost_name ≡ self.old.sheet.ghost_name }
-        ensures wrote { Wrote self.old.sheet.now self.old.at (counts_line counts) self.new.sheet.now self.new.at }
-    {
-        self.item(b"classes ", counts.classes);
-        self.item(b" weekends ", counts.weekends);
-        self.item(b" books ", counts.books);
-        self.item(b" bounds ", counts.bounds);
-        self.item(b" quotes ", counts.quotes);
-        self.end_line();
-    }
-}
-
+// Stays put together by items: std's `write!` promises its text where it answers `Ok`, but never that it does, as `report` must.
 fn write_fault(sheet: &mut [u8], fault: Fault) -> usize
     requires { 16384 ≤ length sheet.old }
     ensures { Wrote sheet.old 0 (fault_line fault) sheet.new result }
 {
     let mut pen = Pen { sheet, at: 0 };
-    pen.fault(fault);
+    pen.item(b"refused ", usize::from(fault.refusal.number()));
+    pen.item(b" record ", fault.record);
+    pen.item(b" byte ", usize::from(fault.byte));
+    pen.text(b"\n");
     pen.at
 }
 
@@ -58,8 +25,14 @@ fn write_counts(sheet: &mut [u8], records: usize, counts: Counts) -> usize
     ensures { Wrote sheet.old 0 (accepted_line records ++ counts_line counts) sheet.new result }
 {
     let mut pen = Pen { sheet, at: 0 };
-    pen.accepted(records);
-    pen.counts(counts);
+    pen.item(b"accepted ", records);
+    pen.text(b" records\n");
+    pen.item(b"classes ", counts.classes);
+    pen.item(b" weekends ", counts.weekends);
+    pen.item(b" books ", counts.books);
+    pen.item(b" bounds ", counts.bounds);
+    pen.item(b" quotes ", counts.quotes);
+    pen.text(b"\n");
     pen.at
 }
 
@@ -70,11 +43,7 @@ pub fn report(file: &[u8], sheet: &mut [u8]) -> Result<usize, Fault>
     ensures fits { IfOk result (λ n. n ≤ length sheet.old) }
 {
     if sheet.len() < 16384 {
-        return Err(Fault {
-            refusal: Refusal::Sheet,
-            record: 0,
-            byte: 0,
-        });
+        return Err(Refusal::Sheet.at(0).in_record(0));
     }
     match read(FileKind::Money, file) {
         Ok(plan) => Ok(write_counts(sheet, file.len() / 16, plan.counts())),

@@ -1,28 +1,40 @@
 // Files to test on, record by record.
+ghost use Rattle.std.specs.Prelude.{◌<◌};
+
 use std::alloc::{AllocError, Global};
 
+// A record of this letter and numbers.
+fn numbered(letter: u8, numbers: [u8; 4]) -> [u8; 16] {
+    let [a, b, c, d] = numbers;
+    [letter, a, b, c, d, 0, 0, 0, 0, 0, 0, 0, 0, 0, 0, 0]
+}
+
 pub(crate) fn class(class: u8, parent: u8) -> [u8; 16] {
-    [b'C', class, parent, 0, 0, 0, 0, 0, 0, 0, 0, 0, 0, 0, 0, 0]
+    numbered(b'C', [class, parent, 0, 0])
 }
 
 pub(crate) fn weekend(weekend: u8) -> [u8; 16] {
-    [b'W', weekend, 0, 0, 0, 0, 0, 0, 0, 0, 0, 0, 0, 0, 0, 0]
+    numbered(b'W', [weekend, 0, 0, 0])
 }
 
 pub(crate) fn book(book: u8, class: u8) -> [u8; 16] {
-    [b'B', book, class, 0, 0, 0, 0, 0, 0, 0, 0, 0, 0, 0, 0, 0]
+    numbered(b'B', [book, class, 0, 0])
 }
 
 pub(crate) fn bound(weekend: u8, class: u8, lower: u8, upper: u8) -> [u8; 16] {
-    [
-        b'N', weekend, class, lower, upper, 0, 0, 0, 0, 0, 0, 0, 0, 0, 0, 0,
-    ]
+    numbered(b'N', [weekend, class, lower, upper])
+}
+
+// A record of this letter and numbers, and of an amount.
+fn priced(letter: u8, numbers: [u8; 2], strain: i32, money: i64) -> [u8; 16] {
+    let [n, m] = numbers;
+    let [a, b, c, d] = strain.to_le_bytes();
+    let [e, f, g, h, i, j, k, l] = money.to_le_bytes();
+    [letter, n, m, 0, a, b, c, d, e, f, g, h, i, j, k, l]
 }
 
 pub(crate) fn strained_quote(book: u8, weekend: u8, strain: i32, money: i64) -> [u8; 16] {
-    let [a, b, c, d] = strain.to_le_bytes();
-    let [e, f, g, h, i, j, k, l] = money.to_le_bytes();
-    [b'Q', book, weekend, 0, a, b, c, d, e, f, g, h, i, j, k, l]
+    priced(b'Q', [book, weekend], strain, money)
 }
 
 pub(crate) fn quote(book: u8, weekend: u8, money: i64) -> [u8; 16] {
@@ -30,9 +42,7 @@ pub(crate) fn quote(book: u8, weekend: u8, money: i64) -> [u8; 16] {
 }
 
 pub(crate) fn strained_limit(strain: i32, money: i64) -> [u8; 16] {
-    let [a, b, c, d] = strain.to_le_bytes();
-    let [e, f, g, h, i, j, k, l] = money.to_le_bytes();
-    [b'L', 0, 0, 0, a, b, c, d, e, f, g, h, i, j, k, l]
+    priced(b'L', [0, 0], strain, money)
 }
 
 pub(crate) fn limit(money: i64) -> [u8; 16] {
@@ -40,11 +50,11 @@ pub(crate) fn limit(money: i64) -> [u8; 16] {
 }
 
 // The record with one byte changed.
-pub(crate) fn with(row: [u8; 16], byte: u8, value: u8) -> [u8; 16] {
+pub(crate) fn with(row: [u8; 16], byte: usize, value: u8) -> [u8; 16]
+    requires { byte < 16 }
+{
     let mut row = row;
-    if byte < 16 {
-        row[byte as usize] = value;
-    }
+    row[byte] = value;
     row
 }
 
@@ -79,15 +89,9 @@ pub(crate) fn board(
     books: u8,
 ) -> Result<Vec<[u8; 16]>, AllocError> {
     let mut rows = Vec::new(heap);
-    for c in 0..classes {
-        rows.push(class(c, c / 2))?;
-    }
-    for w in 0..weekends {
-        rows.push(weekend(w))?;
-    }
-    for b in 0..books {
-        rows.push(book(b, 0))?;
-    }
+    rows.extend((0..classes).map(|c| class(c, c / 2)))?;
+    rows.extend((0..weekends).map(weekend))?;
+    rows.extend((0..books).map(|b| book(b, 0)))?;
     Ok(rows)
 }
 
@@ -98,9 +102,7 @@ pub(crate) fn add_bounds(
     classes: u8,
 ) -> Result<(), AllocError> {
     for w in 0..weekends {
-        for c in 0..classes {
-            rows.push(bound(w, c, c, 120))?;
-        }
+        rows.extend((0..classes).map(|c| bound(w, c, c, 120)))?;
     }
     Ok(())
 }
@@ -112,9 +114,7 @@ pub(crate) fn add_quotes(
     weekends: u8,
 ) -> Result<(), AllocError> {
     for b in 0..books {
-        for w in 0..weekends {
-            rows.push(quote(b, w, i64::from(b) - i64::from(w)))?;
-        }
+        rows.extend((0..weekends).map(|w| quote(b, w, i64::from(b) - i64::from(w))))?;
     }
     Ok(())
 }
@@ -125,13 +125,4 @@ pub(crate) fn largest(heap: Global) -> Result<Vec<[u8; 16]>, AllocError> {
     add_bounds(&mut rows, 16, 8)?;
     add_quotes(&mut rows, 120, 16)?;
     Ok(rows)
-}
-
-// The bytes of a file.
-pub(crate) fn flat(heap: Global, rows: &[[u8; 16]]) -> Result<Vec<u8>, AllocError> {
-    let mut file = Vec::new(heap);
-    for row in rows {
-        file.extend_from_slice(&row[..])?;
-    }
-    Ok(file)
 }

@@ -1,5 +1,5 @@
 // The report of a file, and the sheet that it is written on.
-use crate::files::{board_z, book, flat, largest, limit, strained_limit};
+use crate::files::{board_z, book, largest, limit, strained_limit};
 use planfile::report;
 use std::alloc::{AllocError, Global};
 use std::process::Abort;
@@ -7,23 +7,18 @@ use std::test::Fail;
 
 // A sheet of this length, with a byte at each place that tells it from its neighbours.
 fn marked_sheet(heap: Global, room: usize) -> Result<Vec<u8>, AllocError> {
-    let mut sheet = Vec::new(heap);
-    for i in 0..room {
-        sheet.push((i % 251) as u8)?;
-    }
-    Ok(sheet)
+    (0..room).map(|i| (i % 251) as u8).collect(heap)
 }
 
 // The report is this text, in front on the sheet, and the rest of the sheet is as it was.
 fn reports(
-    rt: &impl Abort,
-    heap: Global,
+    rt: &(impl Abort + AllocGlobal),
     file: &[u8],
     room: usize,
     text: &[u8],
 ) -> Result<(), Fail> {
-    let before = marked_sheet(heap, room)?;
-    let mut sheet = marked_sheet(heap, room)?;
+    let before = marked_sheet(rt.alloc(), room)?;
+    let mut sheet = marked_sheet(rt.alloc(), room)?;
     let Ok(length) = report(file, &mut sheet) else {
         return Err(Fail::new("no report"));
     };
@@ -35,9 +30,9 @@ fn reports(
 }
 
 // The sheet is too short, whatever the file, and stays as it was.
-fn reports_nothing(rt: &impl Abort, heap: Global, file: &[u8], room: usize) -> Result<(), Fail> {
-    let before = marked_sheet(heap, room)?;
-    let mut sheet = marked_sheet(heap, room)?;
+fn reports_nothing(rt: &(impl Abort + AllocGlobal), file: &[u8], room: usize) -> Result<(), Fail> {
+    let before = marked_sheet(rt.alloc(), room)?;
+    let mut sheet = marked_sheet(rt.alloc(), room)?;
     let Err(fault) = report(file, &mut sheet) else {
         return Err(Fail::new("a report"));
     };
@@ -51,47 +46,41 @@ fn reports_nothing(rt: &impl Abort, heap: Global, file: &[u8], room: usize) -> R
 
 #[test]
 fn reports_an_accepted_file(rt: HostRuntime) -> Result<(), Fail> {
-    let file = flat(rt.alloc(), &board_z())?;
+    let rows = board_z();
+    let file = rows.as_flattened();
     let text = b"accepted 17 records\nclasses 2 weekends 2 books 3 bounds 3 quotes 6\n";
-    reports(&rt, rt.alloc(), &file, 16384, text)?;
-    reports(&rt, rt.alloc(), &file, 20000, text)?;
+    reports(&rt, file, 16384, text)?;
+    reports(&rt, file, 20000, text)?;
     let mut rows = largest(rt.alloc())?;
     rows.push(limit(0))?;
-    let most = flat(rt.alloc(), &rows)?;
     let text = b"accepted 2193 records\nclasses 8 weekends 16 books 120 bounds 128 quotes 1920\n";
-    reports(&rt, rt.alloc(), &most, 16384, text)
+    reports(&rt, rows.as_slice().as_flattened(), 16384, text)
 }
 
 #[test]
 fn reports_a_refusal(rt: HostRuntime) -> Result<(), Fail> {
-    reports(&rt, rt.alloc(), b"", 16384, b"refused 1 record 0 byte 0\n")?;
+    reports(&rt, b"", 16384, b"refused 1 record 0 byte 0\n")?;
     let mut rows = board_z();
     // a report is of a money file
     rows[16] = strained_limit(i32::MIN, 11);
-    let strained = flat(rt.alloc(), &rows)?;
     reports(
         &rt,
-        rt.alloc(),
-        &strained,
+        rows.as_flattened(),
         16384,
         b"refused 4 record 16 byte 7\n",
     )?;
     rows[5] = book(1, 2);
-    let faulty = flat(rt.alloc(), &rows)?;
     reports(
         &rt,
-        rt.alloc(),
-        &faulty,
+        rows.as_flattened(),
         20000,
         b"refused 3 record 5 byte 2\n",
     )?;
     let mut rows = largest(rt.alloc())?;
     rows.push(limit(i64::MAX))?;
-    let heavy = flat(rt.alloc(), &rows)?;
     reports(
         &rt,
-        rt.alloc(),
-        &heavy,
+        rows.as_slice().as_flattened(),
         16384,
         b"refused 7 record 2192 byte 8\n",
     )
@@ -99,8 +88,9 @@ fn reports_a_refusal(rt: HostRuntime) -> Result<(), Fail> {
 
 #[test]
 fn refuses_a_short_sheet(rt: HostRuntime) -> Result<(), Fail> {
-    let file = flat(rt.alloc(), &board_z())?;
-    reports_nothing(&rt, rt.alloc(), &file, 16383)?;
-    reports_nothing(&rt, rt.alloc(), &file, 0)?;
-    reports_nothing(&rt, rt.alloc(), b"", 16383)
+    let rows = board_z();
+    let file = rows.as_flattened();
+    reports_nothing(&rt, file, 16383)?;
+    reports_nothing(&rt, file, 0)?;
+    reports_nothing(&rt, b"", 16383)
 }

@@ -1,5 +1,5 @@
 // What is told of a file, and how it is checked.
-use crate::files::{board_z, book, bound, class, flat, strained_limit, strained_quote, weekend};
+use crate::files::{board_z, book, bound, class, strained_limit, strained_quote, weekend};
 use planfile::{FileKind, PlanFile, read};
 use std::alloc::Global;
 use std::process::Abort;
@@ -13,66 +13,72 @@ pub(crate) fn told(kind: FileKind, file: &[u8]) -> Option<(u8, usize, u8)> {
     }
 }
 
-pub(crate) fn refused(
-    rt: &impl Abort,
-    heap: Global,
-    kind: FileKind,
-    rows: &[[u8; 16]],
-    number: u8,
-    record: usize,
-    byte: u8,
-) -> Result<(), Fail> {
-    let file = flat(heap, rows)?;
-    assert_eq!(rt; told(kind, &file), Some((number, record, byte)));
-    Ok(())
-}
-
-// A record of board Z, what it is replaced by, and what is then told of it: a refusal's number and its byte, or 0 and 0 where it is accepted.
+// A record of board Z, what it is replaced by, and the refusal that is then told of it, by its number and its byte;
+// None where it is accepted.
 #[derive(Clone, Copy)]
 pub(crate) struct Case(
     pub(crate) usize,
     pub(crate) [u8; 16],
-    pub(crate) u8,
-    pub(crate) u8,
+    pub(crate) Option<(u8, u8)>,
 );
 
-pub(crate) fn each_told(
-    rt: &impl Abort,
-    heap: Global,
+// Reads files of one kind, and stops the test by `rt` where something else is told of one.
+#[derive(Drop)]
+pub(crate) struct Reader<'a, R> {
+    pub(crate) rt: &'a R,
     kind: FileKind,
-    cases: &[Case],
-) -> Result<(), Fail> {
-    for (i, Case(at, row, number, byte)) in cases.iter().enumerate() {
-        let mut rows = board_z();
-        assert!(rt; *at < 17);
-        rows[*at] = *row;
-        let expected = match *number {
-            0 => None,
-            _ => Some((*number, *at, *byte)),
-        };
-        let file = flat(heap, &rows)?;
-        assert_eq!(rt; told(kind, &file), expected, "case {i}");
+}
+
+pub(crate) fn money<R>(rt: &R) -> Reader<'_, R> {
+    Reader {
+        rt,
+        kind: FileKind::Money,
     }
-    Ok(())
 }
 
-// The file is accepted, and what its plan hands out are the very records of the file.
-pub(crate) fn accepted(
-    rt: &impl Abort,
-    heap: Global,
-    kind: FileKind,
-    rows: &[[u8; 16]],
-) -> Result<(), Fail> {
-    let file = flat(heap, rows)?;
-    assert_eq!(rt; told(kind, &file), None);
-    let Ok(plan) = read(kind, &file) else {
-        return Err(Fail::new("refused"));
-    };
-    let again = records_of(heap, &plan)?;
-    assert!(rt; flat(heap, &again)? == file);
-    Ok(())
+pub(crate) fn ranked<R>(rt: &R) -> Reader<'_, R> {
+    Reader {
+        rt,
+        kind: FileKind::Ranked,
+    }
 }
 
+impl<R: Abort + AllocGlobal> Reader<'_, R> {
+    pub(crate) fn refused(&self, rows: &[[u8; 16]], number: u8, record: usize, byte: u8) {
+        self.told_at(rows, record, Some((number, byte)));
+    }
+
+    // What is told of the record number `at`: a refusal's number and its byte, or None where the file is accepted.
+    pub(crate) fn told_at(&self, rows: &[[u8; 16]], at: usize, expected: Option<(u8, u8)>) {
+        let expected = expected.map(|(number, byte)| (number, at, byte));
+        assert_eq!(self.rt; told(self.kind, rows.as_flattened()), expected);
+    }
+
+    pub(crate) fn each_told(&self, cases: &[Case]) {
+        for (i, Case(at, row, expected)) in cases.iter().enumerate() {
+            let mut rows = board_z();
+            assert!(self.rt; *at < 17);
+            rows[*at] = *row;
+            let expected = expected.map(|(number, byte)| (number, *at, byte));
+            let told = told(self.kind, rows.as_flattened());
+            assert_eq!(self.rt; told, expected, "case {i}");
+        }
+    }
+
+    // The file is accepted, and what its plan hands out are the very records of the file.
+    pub(crate) fn accepted(&self, rows: &[[u8; 16]]) -> Result<(), Fail> {
+        let file = rows.as_flattened();
+        assert_eq!(self.rt; told(self.kind, file), None);
+        let Ok(plan) = read(self.kind, file) else {
+            return Err(Fail::new("refused"));
+        };
+        let again = records_of(self.rt.alloc(), &plan)?;
+        assert!(self.rt; again.as_slice().as_flattened() == file);
+        Ok(())
+    }
+}
+
+// Stays loops over numbers: a plan hands out its classes, books, bounds and quotes by number alone.
 fn records_of(heap: Global, plan: &PlanFile<'_>) -> Result<Vec<[u8; 16]>, Fail> {
     let counts = plan.counts();
     let mut rows = Vec::new(heap);

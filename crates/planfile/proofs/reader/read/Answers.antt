@@ -1,38 +1,49 @@
-use Rattle.std.proofs.Common.{◌≡◌, ℕ, List, get_or, Ok, Err, Result, sym, ◌∙◌, zero-add, arith, w8, Fits}
+use Rattle.std.proofs.Common.{◌≡◌, ℕ, true, false, List, get_or, Ok, Err, Result, sym, ap, ◌∙◌, zero-add, arith, w8, Fits}
+use Rattle.std.proofs.lemmas.Bool.{cond-true}
+use Rattle.std.proofs.lemmas.Bool.Decides.{nat_tests}
 use Rattle.planfile.specs.declared.progress.FileKind.{FileKind}
 use Rattle.planfile.specs.declared.reader.PlanFile.{PlanFile}
 use Rattle.planfile.specs.declared.refusal.Fault.{Fault}
 use Rattle.planfile.specs.Laws.{Tells}
-use Rattle.std.proofs.lemmas.Bool.{cond-true}
+use Rattle.planfile.specs.Refusals.{fault_at}
 use Rattle.planfile.specs.Progress.{start}
-use Rattle.planfile.specs.Reading.{answered, read_file}
+use Rattle.planfile.specs.Reading.{answered, bad_size, read_file}
 use Rattle.planfile.proofs.Layouts.{tells_all}
-use Rattle.planfile.proofs.Walks.{good_size, walked_placed, read_ok, read_err}
+use Rattle.planfile.proofs.Walks.{walked_placed, read_ok, read_err}
 use Rattle.planfile.proofs.reader.read.Goals as goal
+use Rattle.planfile.proofs.reader.read.Goals.{then-is_empty-via-then-is_empty, then-is_empty-via-else-is_empty+then-not-is_empty, then-is_empty-via-else-is_empty+else-not-is_empty+then-rows-gt2193}
 
 -- an answer that is the defined one tells what it should
 told : (k : FileKind) (bs : List ℕ) (r : Result PlanFile Fault) → ((i : ℕ) → Fits w8 (get_or bs i 0)) → answered r ≡ read_file k bs
     → record { answer : answered r ≡ read_file k bs; tells : Tells k bs (answered r) }
 told k bs r bytes e = record { answer = e; tells = tells_all k bs (answered r) (λ i. (bytes i).fits) e }
 
-pub returns-then-is_bad_size : goal.returns-then-is_bad_size
-unfolding read_file
-returns-then-is_bad_size c = told c.args.kind c.args.file.now (Err _) c.type_inv.file (sym (cond-true _ _ _ (sym c.if-is_bad_size.ensures)))
+pub returns-then-is_empty : goal.returns-then-is_empty
+unfolding read_file bad_size
+returns-then-is_empty c =
+    let bad : bad_size c.args.file.now ≡ true = elim c.then-is_empty.branch [
+      | then-is_empty-via-then-is_empty w ↦ grind (arith, nat_tests)
+      | then-is_empty-via-else-is_empty+then-not-is_empty w ↦ grind (arith, nat_tests)
+      | then-is_empty-via-else-is_empty+else-not-is_empty+then-rows-gt2193 w ↦ grind (arith, nat_tests)
+    ] in
+    told c.args.kind c.args.file.now (Err _) c.type_inv.file (ap Err (c.in_record.ensures ∙ ap (fault_at 0) c.at.ensures) ∙ sym (cond-true _ _ _ bad))
 
 pub walk-requires : goal.walk-requires
-walk-requires c = let g = good_size c.args.file.now (sym c.if-is_bad_size.ensures) in omega (arith, c.as_chunks.ensures.front_len)
+walk-requires c = omega arith
 
 pub sections-requires : goal.sections-requires
-sections-requires c = walked_placed c.args.kind 0 start c.in-Ok.end c.as_chunks.result.0.now (sym c.in-Ok.ensures) ∙ zero-add _
+sections-requires c = walked_placed c.args.kind 0 start c.in_ok-end.end c.as_chunks.result.0.now (sym c.in_ok-end.ensures) ∙ zero-add _
 
-pub returns-in-Ok : goal.returns-in-Ok
-returns-in-Ok c =
+pub returns-in_err-end : goal.returns-in_err-end
+unfolding bad_size
+returns-in_err-end c =
+    let good : bad_size c.args.file.now ≡ false = grind (arith, nat_tests) in
+    let e = read_err c.args.kind c.args.file.now c.as_chunks.result.0.now good c.as_chunks.ensures.front c.in_err-end.field-0.0 (sym c.in_err-end.ensures) in
+    told c.args.kind c.args.file.now c.from_residual.result c.type_inv.file (grind (arith, e))
+
+pub returns : goal.returns
+unfolding bad_size
+returns c =
+    let good : bad_size c.args.file.now ≡ false = grind (arith, nat_tests) in
     told c.args.kind c.args.file.now (Ok c.sections.result) c.type_inv.file
-    (read_ok c.args.kind c.args.file.now c.as_chunks.result.0.now (sym c.if-is_bad_size.ensures) c.as_chunks.ensures.front
-    c.in-Ok.end _ (sym c.in-Ok.ensures) c.sections.ensures)
-
-pub returns-in-Err : goal.returns-in-Err
-returns-in-Err c =
-    told c.args.kind c.args.file.now (Err _) c.type_inv.file
-    (read_err c.args.kind c.args.file.now c.as_chunks.result.0.now (sym c.if-is_bad_size.ensures) c.as_chunks.ensures.front
-    c.in-Err.fault (sym c.in-Err.ensures))
+    (read_ok c.args.kind c.args.file.now c.as_chunks.result.0.now good c.as_chunks.ensures.front c.in_ok-end.end _ (sym c.in_ok-end.ensures) c.sections.ensures)

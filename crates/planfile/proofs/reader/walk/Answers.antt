@@ -1,20 +1,26 @@
-use Rattle.std.proofs.Common.{◌+◌, [], get_or, Err, sym, ap, ◌∙◌, arith, rules}
-use Rattle.planfile.proofs.Walks.{step_placed, walk_on, walk_stop, walk_end}
+use Rattle.std.proofs.Common.{◌≡◌, ◌+◌, [], get_or, Ok, Err, sym, ap, ◌∙◌, arith}
+use Rattle.planfile.specs.Progress.{start}
+use Rattle.planfile.specs.Reading.{turned, walked}
+use Rattle.planfile.specs.Records.{stepped}
+use Rattle.std.proofs.lemmas.Grind.{common_steps}
+use Rattle.planfile.proofs.Walks.{step_placed, turn_ok, walk_on, walk_stop, walk_end}
 use Rattle.planfile.proofs.reader.walk.Goals as goal
 
-pub step-requires : goal.step-requires
-step-requires c = let h = c.loop-i.invariant.1 in record { raw = search rules; bounds = omega arith; quotes = omega arith }
-
-pub returns-in-Err : goal.returns-in-Err
-returns-in-Err c =
-    ap Err c.in_record.ensures
-    ∙ sym (walk_stop c.args.kind c.args.rows.now c.loop-i.i c.loop-i.so_far c.loop-i.invariant.0 c.in-Err.spot c.loop-i-test.true (sym c.in-Err.ensures))
+pub returns-in_err-so_far : goal.returns-in_err-so_far
+returns-in_err-so_far c =
+    let m : c.map_err.result ≡ turned c.loop-i.i-counter Ok (stepped c.args.kind c.loop-i.so_far (get_or c.args.rows.now c.loop-i.i-counter [])) = grind (arith, common_steps) in
+    let e : walked c.args.kind 0 start c.args.rows.now ≡ Err c.in_err-so_far.field-0.0
+    = walk_stop c.args.kind c.args.rows.now c.loop-i.i-counter c.loop-i.so_far c.loop-i.invariant.rest c.in_err-so_far.field-0.0 c.loop-i-test.true (sym m ∙ c.in_err-so_far.was) in
+    grind (arith, e)
 
 pub loop-i-preserved : goal.loop-i-preserved
-loop-i-preserved c = (
-  walk_on c.args.kind c.args.rows.now c.loop-i.i c.loop-i.so_far c.loop-i.invariant.0 c.in-Ok.next c.loop-i-test.true (sym c.in-Ok.ensures),
-  step_placed c.args.kind c.loop-i.so_far c.in-Ok.next (get_or c.args.rows.now c.loop-i.i []) (sym c.in-Ok.ensures) ∙ ap (λ n. n + 1) c.loop-i.invariant.1,
-)
+loop-i-preserved c =
+    let m : c.map_err.result ≡ turned c.loop-i.i-counter Ok (stepped c.args.kind c.loop-i.so_far (get_or c.args.rows.now c.loop-i.i-counter [])) = grind (arith, common_steps) in
+    let e = sym m ∙ c.in_ok-so_far.was in
+    record {
+      rest = walk_on c.args.kind c.args.rows.now c.loop-i.i-counter c.loop-i.so_far c.loop-i.invariant.rest c.in_ok-so_far.so_far c.loop-i-test.true e;
+      counted = step_placed c.args.kind c.loop-i.so_far c.in_ok-so_far.so_far (get_or c.args.rows.now c.loop-i.i-counter []) (turn_ok c.loop-i.i-counter _ c.in_ok-so_far.so_far e) ∙ ap (λ n. n + 1) c.loop-i.invariant.counted;
+    }
 
 pub returns : goal.returns
-returns c = c.finish.ensures ∙ sym (walk_end c.args.kind c.args.rows.now c.loop-i.i c.loop-i.so_far c.loop-i.invariant.0 (omega arith))
+returns c = c.finish.ensures ∙ sym (walk_end c.args.kind c.args.rows.now c.loop-i.i-counter c.loop-i.so_far c.loop-i.invariant.rest (omega arith))

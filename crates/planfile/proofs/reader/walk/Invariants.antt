@@ -5,4 +5,7 @@ use Rattle.planfile.proofs.Walks.{placed}
 use Rattle.planfile.proofs.reader.walk.Given as goal
 
 abbrev pub invariant-loop-i : goal.invariant-loop-i
-invariant-loop-i l = (walked l.kind 0 start l.rows ≡ walked l.kind l.i l.so_far (drop l.i l.rows)) × (placed l.so_far ≡ l.i)
+invariant-loop-i l = record {
+  rest : walked l.kind 0 start l.rows ≡ walked l.kind l.i-counter l.so_far (drop l.i-counter l.rows);
+  counted : placed l.so_far ≡ l.i-counter;
+}

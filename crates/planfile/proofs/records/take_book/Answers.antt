@@ -1,8 +1,0 @@
-use Rattle.std.proofs.Common.{get_or, ap, ◌∙◌}
-use Rattle.std.proofs.lemmas.List.{take_rest}
-use Rattle.planfile.specs.Records.{book_record, book_line}
-use Rattle.planfile.proofs.records.take_book.Goals as goal
-
-pub returns : goal.returns
-unfolding book_line
-returns c = c.book_record.ensures ∙ ap (book_record c.args.so_far (get_or c.args.raw.now 1 0) (get_or c.args.raw.now 2 0)) (take_rest c.args.raw.now 3)
