@@ -1,5 +1,5 @@
 // The fields of one record that are longer than a byte, and the bytes that must be zero.
-ghost use Rattle.std.specs.Prelude.{◌≡◌, ◌≤◌, ◌==◌, not, drop, position, slice_range, Ok};
+ghost use Rattle.std.specs.Prelude.{◌≡◌, ◌+◌, length, ◌≤◌, ◌==◌, not, drop, position, slice_range, Ok};
 ghost use Rattle.planfile.specs.Fields.{strain as strain_of, money as money_of, price_of, spare_bytes as the_spare_bytes};
 ghost use Rattle.planfile.specs.Records.{zeros as the_zeros};
 
@@ -13,31 +13,22 @@ pub struct Price {
     pub money: i64,
 }
 
-fn first_nonzero(bytes: &[u8]) -> Option<usize>
-    ensures { result ≡ position (λ b. not (b == 0)) bytes.now }
-{
-    bytes.iter().position(|b| *b != 0)
-}
-
-// Refuses the first byte of a record from place `from` up to `to` that is not zero.
+// Refuses the first byte that is not zero, where `bytes` begins at place `from` of a record.
 #[tactic(auto, using(crate::proofs::Bytes::nonzero_position))]
-pub(crate) fn zeros(raw: &[u8; 16], from: usize, to: usize) -> Result<(), Spot>
-    requires in_order { from ≤ to }
-    requires in_record { to ≤ 16 }
-    ensures { result ≡ the_zeros from (slice_range raw.now from to) (Ok tt) }
+pub(crate) fn zeros(from: usize, bytes: &[u8]) -> Result<(), Spot>
+    requires { from + length bytes.now ≤ 16 }
+    ensures { result ≡ the_zeros from bytes.now (Ok tt) }
 {
-    match first_nonzero(&raw[from..to]) {
+    match first_nonzero(bytes) {
         Some(i) => Err(Refusal::Padding.at((from + i) as u8)),
         None => Ok(()),
     }
 }
 
-// The same of all bytes from place `from` on.
-pub(crate) fn zeros_from(raw: &[u8; 16], from: usize) -> Result<(), Spot>
-    requires { from ≤ 16 }
-    ensures { result ≡ the_zeros from (drop from raw.now) (Ok tt) }
+fn first_nonzero(bytes: &[u8]) -> Option<usize>
+    ensures { result ≡ position (λ b. not (b == 0)) bytes.now }
 {
-    zeros(raw, from, 16)
+    bytes.iter().position(|b| *b != 0)
 }
 
 // How many bytes from the third on must be zero in a quote.

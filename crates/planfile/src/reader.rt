@@ -101,7 +101,8 @@ impl PlanFile<'_> {
 fn second_number(raw: &[u8; 16]) -> u8
     ensures { result ≡ the_second_number raw.now }
 {
-    raw[2]
+    let [_, _, number, ..] = *raw;
+    number
 }
 
 fn bound_of(raw: &[u8; 16]) -> Bound

@@ -1,10 +1,10 @@
 // One record after another: the first fault of each, or what the file has come to with it.
-ghost use Rattle.std.specs.Prelude.{◌≡◌, ◌<◌, ◌&&◌, ◌==◌, nat_lt, not, Ok};
-ghost use Rattle.planfile.specs.Progress.{rank, within};
+ghost use Rattle.std.specs.Prelude.{◌≡◌, ◌<◌, ◌&&◌, ◌==◌, nat_le, nat_lt, not, Ok};
+ghost use Rattle.planfile.specs.Progress.{before, rank, within};
 ghost use Rattle.planfile.specs.Records.{refuse, class_line, weekend_line, book_line, bound_line, quote_line, limit_line, stepped};
-ghost use Rattle.planfile.specs.declared.refusal.Refusal.TheVariants.{Letter, Number};
+ghost use Rattle.planfile.specs.declared.refusal.Refusal.TheVariants.{Bounds, Letter, Number};
 
-use crate::fields::{read_price, spare_bytes, zeros, zeros_from};
+use crate::fields::{read_price, spare_bytes, zeros};
 use crate::progress::{FileKind, Place, Progress, Stage};
 use crate::refusal::{Refusal, Spot};
 
@@ -26,18 +26,37 @@ fn next_in_turn(number: u8, so_far: u8, most: u8) -> Result<(), Spot>
         .when(number != so_far || number >= most)
 }
 
+// The place of a bound or a quote: its row, then its order, then its column.
+#[tactic(auto, unfolding(crate::specs::Progress::before))]
+fn place_in_turn(place: Place, least: Place, rows: u8, columns: u8) -> Result<(), Spot>
+    ensures { result ≡ refuse Number 1 (not (nat_lt place.row rows)) (refuse Number 1 (before place least) (refuse Number 2 (not (nat_lt place.column columns)) (Ok tt))) }
+{
+    Refusal::Number.at(1).when(place.row >= rows)?;
+    Refusal::Number.at(1).when(place < least)?;
+    Refusal::Number.at(2).when(place.column >= columns)
+}
+
+// A lower bound is at most the upper one, and that at most 120.
+fn straight(lower: u8, upper: u8) -> Result<(), Spot>
+    ensures { result ≡ refuse Bounds 3 (not (nat_le lower upper && nat_le upper 120)) (Ok tt) }
+{
+    Refusal::Bounds.at(3).when(lower > upper || upper > 120)
+}
+
 #[tactic(auto, unfolding(crate::specs::Records::class_line))]
 fn take_class(so_far: Progress, raw: &[u8; 16]) -> Result<Progress, Spot>
     ensures { result ≡ class_line so_far raw.now }
 {
-    let [_, class, parent, ..] = *raw;
+    let [_, class, parent, rest @ ..] = raw.as_slice() else {
+        unreachable()
+    };
     letter_may_follow(so_far, Stage::Start, Stage::Class)?;
-    zeros_from(raw, 3)?;
-    next_in_turn(class, so_far.classes, 8)?;
-    Refusal::Number.at(2).when(parent >= class.max(1))?;
+    zeros(3, rest)?;
+    next_in_turn(*class, so_far.classes, 8)?;
+    Refusal::Number.at(2).when(*parent >= (*class).max(1))?;
     Ok(Progress {
         stage: Stage::Class,
-        classes: class + 1,
+        classes: *class + 1,
         ..so_far
     })
 }
@@ -46,13 +65,15 @@ fn take_class(so_far: Progress, raw: &[u8; 16]) -> Result<Progress, Spot>
 fn take_weekend(so_far: Progress, raw: &[u8; 16]) -> Result<Progress, Spot>
     ensures { result ≡ weekend_line so_far raw.now }
 {
-    let [_, weekend, ..] = *raw;
+    let [_, weekend, rest @ ..] = raw.as_slice() else {
+        unreachable()
+    };
     letter_may_follow(so_far, Stage::Class, Stage::Weekend)?;
-    zeros_from(raw, 2)?;
-    next_in_turn(weekend, so_far.weekends, 16)?;
+    zeros(2, rest)?;
+    next_in_turn(*weekend, so_far.weekends, 16)?;
     Ok(Progress {
         stage: Stage::Weekend,
-        weekends: weekend + 1,
+        weekends: *weekend + 1,
         ..so_far
     })
 }
@@ -61,61 +82,63 @@ fn take_weekend(so_far: Progress, raw: &[u8; 16]) -> Result<Progress, Spot>
 fn take_book(so_far: Progress, raw: &[u8; 16]) -> Result<Progress, Spot>
     ensures { result ≡ book_line so_far raw.now }
 {
-    let [_, book, class, ..] = *raw;
+    let [_, book, class, rest @ ..] = raw.as_slice() else {
+        unreachable()
+    };
     letter_may_follow(so_far, Stage::Weekend, Stage::Book)?;
-    zeros_from(raw, 3)?;
-    next_in_turn(book, so_far.books, 120)?;
-    Refusal::Number.at(2).when(class >= so_far.classes)?;
+    zeros(3, rest)?;
+    next_in_turn(*book, so_far.books, 120)?;
+    Refusal::Number.at(2).when(*class >= so_far.classes)?;
     Ok(Progress {
         stage: Stage::Book,
-        books: book + 1,
+        books: *book + 1,
         ..so_far
     })
 }
 
-#[tactic(auto, unfolding(crate::specs::Records::bound_line, crate::specs::Progress::before))]
+#[tactic(auto, unfolding(crate::specs::Records::bound_line))]
 fn take_bound(so_far: Progress, raw: &[u8; 16]) -> Result<Progress, Spot>
     requires { so_far.bounds < 2193 }
     ensures { result ≡ bound_line so_far raw.now }
 {
-    let [_, weekend, class, lower, upper, ..] = *raw;
+    let [_, weekend, class, lower, upper, rest @ ..] = raw.as_slice() else {
+        unreachable()
+    };
     let place = Place {
-        row: weekend,
-        column: class,
+        row: *weekend,
+        column: *class,
     };
     letter_may_follow(so_far, Stage::Book, Stage::Bound)?;
-    zeros_from(raw, 5)?;
-    Refusal::Number.at(1).when(weekend >= so_far.weekends)?;
-    Refusal::Number.at(1).when(place < so_far.next_bound)?;
-    Refusal::Number.at(2).when(class >= so_far.classes)?;
-    Refusal::Bounds.at(3).when(lower > upper || upper > 120)?;
+    zeros(5, rest)?;
+    place_in_turn(place, so_far.next_bound, so_far.weekends, so_far.classes)?;
+    straight(*lower, *upper)?;
     Ok(Progress {
         stage: Stage::Bound,
         bounds: so_far.bounds + 1,
         next_bound: Place {
-            column: class + 1,
+            column: place.column + 1,
             ..place
         },
         ..so_far
     })
 }
 
-#[tactic(auto, unfolding(crate::specs::Records::quote_line, crate::specs::Progress::before))]
+#[tactic(auto, unfolding(crate::specs::Records::quote_line))]
 fn take_quote(kind: FileKind, so_far: Progress, raw: &[u8; 16]) -> Result<Progress, Spot>
     requires { so_far.quotes < 2193 }
     ensures { result ≡ quote_line kind so_far raw.now }
 {
-    let [_, book, weekend, ..] = *raw;
+    let [_, book, weekend, rest @ ..] = raw.as_slice() else {
+        unreachable()
+    };
     let price = read_price(raw);
     let place = Place {
-        row: book,
-        column: weekend,
+        row: *book,
+        column: *weekend,
     };
     letter_may_follow(so_far, Stage::Book, Stage::Quote)?;
-    zeros(raw, 3, 3 + spare_bytes(kind))?;
-    Refusal::Number.at(1).when(book >= so_far.books)?;
-    Refusal::Number.at(1).when(place < so_far.next_quote)?;
-    Refusal::Number.at(2).when(weekend >= so_far.weekends)?;
+    zeros(3, &rest[..spare_bytes(kind)])?;
+    place_in_turn(place, so_far.next_quote, so_far.books, so_far.weekends)?;
     Refusal::Weight
         .at(4)
         .when(price.strain.unsigned_abs() > 1_000_000_000)?;
@@ -126,7 +149,7 @@ fn take_quote(kind: FileKind, so_far: Progress, raw: &[u8; 16]) -> Result<Progre
         stage: Stage::Quote,
         quotes: so_far.quotes + 1,
         next_quote: Place {
-            column: weekend + 1,
+            column: place.column + 1,
             ..place
         },
         ..so_far
@@ -137,9 +160,12 @@ fn take_quote(kind: FileKind, so_far: Progress, raw: &[u8; 16]) -> Result<Progre
 fn take_limit(kind: FileKind, so_far: Progress, raw: &[u8; 16]) -> Result<Progress, Spot>
     ensures { result ≡ limit_line kind so_far raw.now }
 {
+    let [_, rest @ ..] = raw.as_slice() else {
+        unreachable()
+    };
     let price = read_price(raw);
     letter_may_follow(so_far, Stage::Book, Stage::Quote)?;
-    zeros(raw, 1, 3 + spare_bytes(kind))?;
+    zeros(1, &rest[..2 + spare_bytes(kind)])?;
     Refusal::Weight
         .at(8)
         .when(price.money.unsigned_abs() > 1_000_000_000_000)?;
@@ -156,7 +182,8 @@ pub(crate) fn step(kind: FileKind, so_far: Progress, raw: &[u8; 16]) -> Result<P
     requires quotes { so_far.quotes < 2193 }
     ensures { result ≡ stepped kind so_far raw.now }
 {
-    match char::from(raw[0]) {
+    let [letter, ..] = raw;
+    match char::from(*letter) {
         'C' => take_class(so_far, raw),
         'W' => take_weekend(so_far, raw),
         'B' => take_book(so_far, raw),
