@@ -11,6 +11,7 @@ module _ {V : Type 0} {K : Kind V} (L : Lawful K) where
   open K use {none, plus, minus, weight}
 
   -- one amount more on both sides of an inequality between sums, put right of the second part or of the first
+  -- Stays, and is not `linear`, which asks that six times these weights are light (`omega`: the goal does not follow): twice them is what `Subgradient` leaves room for
   add_both : (p c q d e r : V) → 2 * (weight p + weight c + weight q + weight d + weight e + weight r) ≤ law_limit → AtMost K (plus p c) (plus q d) → AtMost K e r →
       AtMost K (plus p (plus c e)) (plus (plus q r) d)
   add_both p c q d e r h a b =
