@@ -1,11 +1,12 @@
 -- Whatever calls are sent to an opened board, the problem that they make of it is sound, and the checks are right about it. Assumes nothing.
 use Rattle.std.proofs.Common.{◌≡◌, ℕ, zero, suc, ◌+◌, ◌-◌, ◌*◌, ◌<◌, ◌≤◌, min, max, Bool, true, false, cond, ◌&&◌, ltb, leb, List, [], ◌∷◌, length, get_or, take, set, replicate, IfSome, Some, None, Ok, Err, Option, Result, refl, ap, ◌∙◌, arith}
 use Rattle.std.proofs.lemmas.List.{get_or-replicate, get_or_append_left, length-take-le}
+use Rattle.std.specs.List.{All}
+use Rattle.std.proofs.lemmas.List.Elements.{All-set, All-replicate}
 use Rattle.std.proofs.lemmas.Bool.{and_parts, ltb-true, ltb-false, leb-true, cond_both, false≢true}
 use Rattle.amounts.specs.Kind.{Kind, Lawful}
 use Rattle.amounts.specs.Sums.{item}
 use Rattle.sources.specs.Strikes.{struck_at, struck_out}
-use Rattle.plans.specs.declared.bound_table.Bound.{Bound}
 use Rattle.plans.specs.Bounding.{bound, StraightBound, bounds_go}
 use Rattle.plans.specs.Places.{at}
 use Rattle.plans.specs.Posed.{Meaning}
@@ -14,7 +15,6 @@ use Rattle.plans.specs.Rosters.{Shape, passes, parent_fits, class_fits, parents_
 use Rattle.plans.specs.Sheets.{toll_accepts, head_accepts}
 use Rattle.plans.specs.Theorems.{Sound}
 use Rattle.plans.proofs.Below.{each_holds}
-use Rattle.plans.proofs.Padding.{set_holds, filled_holds}
 use Rattle.plans.proofs.Straight.{bound_holds}
 use Rattle.plans.proofs.Verdicts.{toll_check_sound, head_check_sound}
 use Rattle.board.specs.declared.refusal.Refusal.{Refusal}
@@ -69,21 +69,14 @@ listed n ps hs long e e' =
     }
 
 -- ---- bounds
--- no bound crosses or passes 120
-record Bounded (table : List Bound) : Type 0 where
-  pub straight : (i : ℕ) → StraightBound (get_or table i (bound 0 0))
-
-free_bounded : (books : ℕ) → Bounded (free_bounds books)
-free_bounded books = record { straight = λ i. filled_holds StraightBound (bound 0 0) 128 i (bound 0 (min books 120)) (omega arith, omega arith) (omega arith, omega arith) }
-
-set_bounded : (table : List Bound) (i : ℕ) (b : Bound) → StraightBound b → Bounded table → Bounded (set table i b)
-set_bounded table i b new old = record { straight = λ j. set_holds StraightBound (bound 0 0) table i j b new (old.straight j) }
+free_bounded : (books : ℕ) → All StraightBound (free_bounds books)
+free_bounded books = All-replicate StraightBound 128 (bound 0 (min books 120)) (omega arith, omega arith)
 
 -- ---- runs
 module _ {V : Type 0} (K : Kind V) (M : Meaning V) where
   record Fit (st : Standing V) : Type 0 where
     pub rostered : Rostered (min M.books 120) st.roster
-    pub bounded : Bounded st.bounds
+    pub bounded : All StraightBound st.bounds
     pub modest : K.weight st.limit ≤ 1000000000000
 
   fit_settled : (o : Option Refusal) (st st' : Standing V) → Fit st → Fit st' → Fit (settled M o st st')
@@ -107,12 +100,12 @@ module _ {V : Type 0} (K : Kind V) (M : Meaning V) where
   fit_limit st amount true e f = record { rostered = f.rostered; bounded = f.bounded; modest = leb-true (K.weight amount) 1000000000000 e }
   fit_limit st amount false e f = f
 
-  fit_bounds : (st : Standing V) (w c lo up : ℕ) (t : Bool) → bounds_go w c lo up ≡ t → Bounded st.bounds →
-      Bounded (cond t (set st.bounds (w * 8 + c) (bound lo up)) st.bounds)
+  fit_bounds : (st : Standing V) (w c lo up : ℕ) (t : Bool) → bounds_go w c lo up ≡ t → All StraightBound st.bounds →
+      All StraightBound (cond t (set st.bounds (w * 8 + c) (bound lo up)) st.bounds)
   fit_bounds st w c lo up true e b =
       let p₁ = and_parts (ltb w 16 && ltb c 8 && leb lo up) (leb up 120) e in
       let p₂ = and_parts (ltb w 16 && ltb c 8) (leb lo up) p₁.0 in
-      set_bounded st.bounds (w * 8 + c) (bound lo up) (leb-true lo up p₂.1, leb-true up 120 p₁.1) b
+      All-set StraightBound st.bounds (w * 8 + c) (bound lo up) (leb-true lo up p₂.1, leb-true up 120 p₁.1) b
   fit_bounds st w c lo up false e b = b
 
   fit_step : (st : Standing V) (s : Step V) → Fit st → Fit (stepped M K st s)
@@ -154,7 +147,7 @@ module _ {V : Type 0} (K : Kind V) (M : Meaning V) where
 
   fit_sound : Fair K M → (st : Standing V) → Fit st → Sound K (put_by M st)
   fit_sound fair st f =
-      let small = bound_holds StraightBound st.bounds (omega arith, omega arith) f.bounded.straight in
+      let small = bound_holds StraightBound st.bounds (omega arith, omega arith) f.bounded in
       record {
         books = fair.few_books;
         weekends = fair.few_weekends;
@@ -203,7 +196,7 @@ module _ {V : Type 0} {K : Kind V} (L : Lawful K) where
   pub runs_uncrossed : RunsUncrossed K
   runs_uncrossed M fair ss w c lw lc =
       let st = played M K (opened M K) ss in
-      (bound_holds StraightBound st.bounds (omega arith, omega arith) (fit_run M ss).bounded.straight w c).0
+      (bound_holds StraightBound st.bounds (omega arith, omega arith) (fit_run M ss).bounded w c).0
 
   pub runs_never_wrong : RunsNeverWrong K
   runs_never_wrong M fair ss = never_wrong (made_by M K ss) (runs_sound M fair ss)
