@@ -1,25 +1,20 @@
 -- Whatever calls are sent to an opened board, the problem that they make of it is sound, and the checks are right about it. Assumes nothing.
-use Rattle.std.proofs.Common.{◌≡◌, ℕ, zero, suc, ◌+◌, ◌-◌, ◌*◌, ◌<◌, ◌≤◌, min, max, Bool, true, false, cond, ◌&&◌, ltb, leb, List, [], ◌∷◌, length, get_or, take, set, replicate, IfSome, Some, None, Ok, Err, Option, Result, refl, ap, ◌∙◌, arith}
+use Rattle.std.proofs.Common.{◌≡◌, ℕ, zero, suc, ◌+◌, ◌-◌, ◌*◌, ◌<◌, ◌≤◌, min, max, Bool, true, false, cond, ◌&&◌, ltb, leb, List, [], ◌∷◌, length, get_or, take, set, replicate, IfSome, Some, None, Option, refl, ap, ◌∙◌, arith}
 use Rattle.std.proofs.lemmas.List.{length-replicate, get_or-replicate, get_or_append_left, length-set, length-take-le}
-use Rattle.std.proofs.lemmas.Bool.{and_parts, ltb-true, ltb-false, leb-true, cond_both, false≢true}
+use Rattle.std.proofs.lemmas.Bool.{and_parts, ltb-true, ltb-false, leb-true, cond_both}
 use Rattle.amounts.specs.Kind.{Kind, Lawful}
-use Rattle.amounts.specs.Sums.{item}
 use Rattle.sources.specs.Strikes.{struck_at, struck_out}
 use Rattle.plans.specs.Bounding.{bound_at, bounds_go}
 use Rattle.plans.specs.Places.{at}
 use Rattle.plans.specs.Posed.{Meaning}
-use Rattle.plans.specs.Problem.{Problem}
 use Rattle.plans.specs.Rosters.{Shape, passes, parent_fits, class_fits, parents_fit, padded, roster_of}
-use Rattle.plans.specs.Sheets.{toll_accepts, head_accepts}
 use Rattle.plans.specs.Theorems.{Sound}
-use Rattle.plans.proofs.Below.{each_holds}
 use Rattle.plans.proofs.Straight.{StraightAt, straight_set}
-use Rattle.plans.proofs.Verdicts.{toll_check_sound, head_check_sound}
+use Rattle.board.proofs.Checks.{never_wrong}
 use Rattle.board.specs.declared.refusal.Refusal.{Refusal}
-use Rattle.board.specs.declared.refusal.Refusal.TheVariants.{Range, Heavy, Short}
-use Rattle.board.specs.Questions.{places, light_entries, head_entries, toll_check, head_check}
+use Rattle.board.specs.declared.refusal.Refusal.TheVariants.{Heavy}
 use Rattle.board.specs.Standing.{Standing, Step, strike, reopen, pin, roster, bounds, limit, question, free_lower, free_upper, with_roster, settled, fault, changed, stepped, played, opened, quote_of, put_by, made_by}
-use Rattle.board.specs.Theorems.{Fair, RunsSound, RunsUncrossed, NeverWrong, RunsNeverWrong}
+use Rattle.board.specs.Theorems.{Fair, RunsSound, RunsUncrossed, RunsNeverWrong}
 
 -- ---- rosters
 -- the classes are 1 to 8, each parent but that of 0 has a smaller number, and each of n books is in one of the classes
@@ -187,32 +182,7 @@ module _ {V : Type 0} (K : Kind V) (M : Meaning V) where
         limit = f.modest;
       }
 
--- ---- both checks
--- is the answer a yes?
-abbrev yes : Result Bool Refusal → Bool
-yes (Ok said) = said
-yes (Err r) = false
-
--- a check that says yes found the sheet long enough and its entries in order
-checked : (short fine said : Bool) (r r' : Refusal) → cond short (Err r) (cond fine (Ok said) (Err r')) ≡ Ok true → (fine ≡ true) × (said ≡ true)
-checked true fine said r r' e = absurd (false≢true (ap yes e))
-checked false true said r r' e = (refl, ap yes e)
-checked false false said r r' e = absurd (false≢true (ap yes e))
-
 module _ {V : Type 0} {K : Kind V} (L : Lawful K) where
-  never_wrong : (B : Problem V) → Sound K B → NeverWrong K B
-  unfolding toll_check head_check
-  never_wrong B s = record {
-    toll = λ possible sheet e.
-        let light = leb (K.weight B.limit) 1000000000000 in
-        let entries = light_entries K (places B) sheet in
-        let found = checked (ltb (length sheet) (places B)) (light && entries) (toll_accepts K B sheet) Short Heavy e in
-        let each = each_holds (places B) (λ i. leb (K.weight (item K sheet i)) 1000000000000) (and_parts light entries found.0).1 in
-        toll_check_sound L B s possible sheet (λ i l. leb-true (K.weight (item K sheet i)) 1000000000000 (each i l)) found.1;
-    head = λ p plan sheet e.
-        head_check_sound K B s p plan sheet (checked (ltb (length sheet) (places B)) (head_entries (places B) sheet) (head_accepts B sheet) Short Range e).1;
-  }
-
   fit_run : (M : Meaning V) (ss : List (Step V)) → Fit K M (played M K (opened M K) ss)
   fit_run M ss = fit_played K M ss (opened M K) (fit_opened K M L)
 
@@ -225,4 +195,4 @@ module _ {V : Type 0} {K : Kind V} (L : Lawful K) where
       bound_holds (λ x y. x ≤ y) st.lower st.upper (omega arith) (λ i l. ((fit_run M ss).bounded.straight i l).0) w c
 
   pub runs_never_wrong : RunsNeverWrong K
-  runs_never_wrong M fair ss = never_wrong (made_by M K ss) (runs_sound M fair ss)
+  runs_never_wrong M fair ss = never_wrong L (made_by M K ss) (runs_sound M fair ss)

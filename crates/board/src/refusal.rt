@@ -6,19 +6,19 @@ ghost use Rattle.board.specs.Refusals.{number as number_of};
 #[derive(Clone, Copy, PartialEq, Eq, Debug)]
 pub enum Refusal {
     // a number in a roster or an entry of a head sheet is out of range or order
-    Range,
+    Range = 3,
     // the board lacks the book, the weekend or the class
-    Unknown,
+    Unknown = 5,
     // a lower bound exceeds its upper bound, or that exceeds 120
-    Crossed,
+    Crossed = 6,
     // a limit or an entry of a toll sheet weighs too much
-    Heavy,
+    Heavy = 7,
     // a sheet or the list of classes is too short
-    Short,
+    Short = 8,
     // the pair to strike or to pin is shut
-    Shut,
+    Shut = 9,
     // the pair to reopen is not struck
-    NotStruck,
+    NotStruck = 10,
 }
 
 impl Refusal {
@@ -26,14 +26,6 @@ impl Refusal {
     pub fn number(self) -> u8
         ensures { result ≡ number_of self }
     {
-        match self {
-            Refusal::Range => 3,
-            Refusal::Unknown => 5,
-            Refusal::Crossed => 6,
-            Refusal::Heavy => 7,
-            Refusal::Short => 8,
-            Refusal::Shut => 9,
-            Refusal::NotStruck => 10,
-        }
+        self as u8
     }
 }
