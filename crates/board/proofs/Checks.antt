@@ -1,5 +1,5 @@
 -- The first entries of a sheet; and neither check says yes where there is a plan within the limit. Assumes nothing.
-use Rattle.std.proofs.Common.{◌≡◌, ℕ, zero, suc, ◌+◌, ◌<◌, ◌≤◌, Bool, true, false, cond, ◌&&◌, ltb, leb, List, length, get_or, take, IfSome, Ok, Err, Result, refl, ap, ◌∙◌, subst, arith}
+use Rattle.std.proofs.Common.{◌≡◌, ℕ, zero, suc, ◌+◌, ◌-◌, ◌<◌, ◌≤◌, Bool, true, false, cond, ◌&&◌, ltb, leb, List, ℤ, pos, unsigned_abs, length, get_or, take, slice_range, IfSome, Ok, Err, Result, refl, sym, ap, ◌∙◌, subst, arith}
 use Rattle.std.proofs.Math.Bool.{and_comm}
 use Rattle.std.proofs.lemmas.Bool.{and_parts, leb-true, false≢true}
 use Rattle.std.proofs.lemmas.List.Folds.{list_all_more}
@@ -23,13 +23,26 @@ use Rattle.board.specs.Questions.{places, light_entries, head_entries, toll_chec
 use Rattle.board.specs.Theorems.{NeverWrong}
 
 -- a test of the first n entries of a sheet, entry by entry
-pub all_below : {X : Type 0} (p : X → Bool) (none : X) (xs : List X) (n : ℕ) → n ≤ length xs → list_all p (take n xs) ≡ each_below n (λ i. p (get_or xs i none))
+all_first : {X : Type 0} (p : X → Bool) (none : X) (xs : List X) (n : ℕ) → n ≤ length xs → list_all p (take n xs) ≡ each_below n (λ i. p (get_or xs i none))
 unfolding each_below
-all_below p none xs zero h = refl
-all_below p none xs (suc n) h =
+all_first p none xs zero h = refl
+all_first p none xs (suc n) h =
     let next : suc n ≡ n + 1 = omega arith in
     ap (λ k. list_all p (take k xs)) next
-    ∙ (list_all_more p xs n none (omega arith) ∙ (and_comm (list_all p (take n xs)) (p (get_or xs n none)) ∙ ap (λ r. p (get_or xs n none) && r) (all_below p none xs n (omega arith))))
+    ∙ (list_all_more p xs n none (omega arith) ∙ (and_comm (list_all p (take n xs)) (p (get_or xs n none)) ∙ ap (λ r. p (get_or xs n none) && r) (all_first p none xs n (omega arith))))
+
+all_below : {X : Type 0} (p : X → Bool) (none : X) (xs : List X) (n : ℕ) (entries : List X) → n ≤ length xs → entries ≡ slice_range xs 0 n
+    → each_below n (λ i. p (get_or xs i none)) ≡ list_all p entries
+all_below p none xs n entries h is =
+    let whole : n - 0 ≡ n = omega arith in
+    sym (ap (list_all p) is ∙ (ap (λ k. list_all p (take k xs)) whole ∙ all_first p none xs n h))
+
+pub all_light : {V : Type 0} (K : Kind V) (n : ℕ) (sheet entries : List V) → n ≤ length sheet → entries ≡ slice_range sheet 0 n
+    → light_entries K n sheet ≡ list_all (λ x. leb (K.weight x) 1000000000000) entries
+all_light K n sheet entries = all_below (λ x. leb (K.weight x) 1000000000000) K.none sheet n entries
+
+pub all_heads : (n : ℕ) (sheet entries : List ℤ) → n ≤ length sheet → entries ≡ slice_range sheet 0 n → head_entries n sheet ≡ list_all (λ x. leb (unsigned_abs x) 1) entries
+all_heads n sheet entries = all_below (λ x. leb (unsigned_abs x) 1) (pos 0) sheet n entries
 
 -- what a board puts is sound, where each quote is light
 pub board_sound : {S V : Type 0} (source : Ghosts S V) (K : Kind V) (b : Desk S V) (layer : StrikeLayer S) (roster : Roster) (bounds : Bounds) (limit : V)

@@ -46,15 +46,15 @@ impl<S: Source> Board<S> {
     }
 
     // Whether a toll sheet shows that there is no plan within the limit: a book has no open weekend, or the floor exceeds the limit.
+    #[tactic(auto, using(std::proofs::lemmas::Bool::Decides::nat_tests, crate::proofs::Checks::all_light), unfolding(crate::specs::Questions::toll_check))]
     pub fn toll_check(&self, sheet: &[S::Quote]) -> Result<bool, Refusal>
         ensures answer { result ≡ the_toll_check S.Quote.Amount.kind (posed S.Source self.now) sheet.now }
         ensures sound { result ≡ Ok true → Possible S.Quote.Amount.kind (posed S.Source self.now) → ⊥ }
     {
-        let places = self.places();
-        if sheet.len() < places {
+        let Some(entries) = sheet.get(..self.places()) else {
             return Err(Refusal::Short);
-        }
-        if !are_light(&sheet[..places]) {
+        };
+        if !are_light(entries) {
             return Err(Refusal::Heavy);
         }
         self.look_at_quotes();
@@ -62,15 +62,15 @@ impl<S: Source> Board<S> {
     }
 
     // The same of a head sheet, with entries -1, 0 or 1, every quote counted 0, and limit 0: it shows that there is no plan at all.
+    #[tactic(auto, using(std::proofs::lemmas::Bool::Decides::nat_tests, crate::proofs::Checks::all_heads), unfolding(crate::specs::Questions::head_check))]
     pub fn head_check(&self, sheet: &[i8]) -> Result<bool, Refusal>
         ensures answer { result ≡ the_head_check (posed S.Source self.now) sheet.now }
         ensures sound { result ≡ Ok true → Possible S.Quote.Amount.kind (posed S.Source self.now) → ⊥ }
     {
-        let places = self.places();
-        if sheet.len() < places {
+        let Some(entries) = sheet.get(..self.places()) else {
             return Err(Refusal::Short);
-        }
-        if !are_heads(&sheet[..places]) {
+        };
+        if !are_heads(entries) {
             return Err(Refusal::Range);
         }
         self.look_at_quotes();

@@ -1,25 +1,14 @@
-use Rattle.std.proofs.Common.{leb, pos, unsigned_abs, sym, ◌∙◌, arith}
+use Rattle.std.proofs.Common.{sym, ◌∙◌, arith}
 use Rattle.std.proofs.lemmas.Bool.Decides.{nat_tests}
 use Rattle.board.specs.Boards.{posed}
 use Rattle.board.specs.Questions.{head_check}
-use Rattle.board.proofs.Checks.{all_below, never_wrong}
+use Rattle.board.proofs.Checks.{all_heads, never_wrong}
 use Rattle.board.proofs.desk.Board.head_check.Goals as goal
-
-pub returns-then-sheet-places-clause-answer : goal.returns-then-sheet-places-clause-answer
-unfolding head_check
-returns-then-sheet-places-clause-answer g c = grind (arith, nat_tests)
-
-pub returns-then-not-are_heads-clause-answer : goal.returns-then-not-are_heads-clause-answer
-unfolding head_check
-returns-then-not-are_heads-clause-answer g c =
-    let e = all_below (λ x. leb (unsigned_abs x) 1) (pos 0) c.args.sheet.now c.places-places.result (omega arith) in
-    grind (arith, nat_tests)
 
 pub returns-clause-answer : goal.returns-clause-answer
 unfolding head_check
 returns-clause-answer g c =
-    let e = all_below (λ x. leb (unsigned_abs x) 1) (pos 0) c.args.sheet.now c.places-places.result (omega arith) in
-    grind (arith, nat_tests)
+    grind (arith, nat_tests, all_heads)
 
 pub returns-clause-sound : goal.returns-clause-sound
 returns-clause-sound g c =

@@ -1,27 +1,14 @@
-use Rattle.std.proofs.Common.{leb, sym, ◌∙◌, arith}
+use Rattle.std.proofs.Common.{sym, ◌∙◌, arith}
 use Rattle.std.proofs.lemmas.Bool.Decides.{nat_tests}
 use Rattle.board.specs.Boards.{posed}
 use Rattle.board.specs.Questions.{toll_check}
-use Rattle.board.proofs.Checks.{all_below, never_wrong}
+use Rattle.board.proofs.Checks.{all_light, never_wrong}
 use Rattle.board.proofs.desk.Board.toll_check.Goals as goal
-
-pub returns-then-sheet-places-clause-answer : goal.returns-then-sheet-places-clause-answer
-unfolding toll_check
-returns-then-sheet-places-clause-answer g c = grind (arith, nat_tests)
-
-pub returns-then-not-are_light-clause-answer : goal.returns-then-not-are_light-clause-answer
-unfolding toll_check
-returns-then-not-are_light-clause-answer g c =
-    let K = g.S.Quote.Amount.kind in
-    let e = all_below (λ x. leb (K.weight x) 1000000000000) K.none c.args.sheet.now c.places-places.result (omega arith) in
-    grind (arith, nat_tests)
 
 pub returns-clause-answer : goal.returns-clause-answer
 unfolding toll_check
 returns-clause-answer g c =
-    let K = g.S.Quote.Amount.kind in
-    let e = all_below (λ x. leb (K.weight x) 1000000000000) K.none c.args.sheet.now c.places-places.result (omega arith) in
-    grind (arith, nat_tests)
+    grind (arith, nat_tests, all_light)
 
 pub returns-clause-sound : goal.returns-clause-sound
 returns-clause-sound g c =
