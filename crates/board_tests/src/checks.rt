@@ -1,7 +1,4 @@
 use crate::zed::*;
-use amounts::Money;
-use board::Board;
-use sources::QuoteTable;
 
 #[test]
 fn a_toll_sheet_with_floor_eight(rt: HostRuntime) {

@@ -1,5 +1,4 @@
 use crate::zed::*;
-use amounts::Money;
 use board::Board;
 use sources::QuoteTable;
 
