@@ -10,3 +10,4 @@ pub mod Order
 pub mod Tables
 pub mod Copies
 pub mod Least
+pub mod Chains

@@ -1,19 +1,21 @@
 -- Whatever calls are sent to an opened board, the problem that they make of it is sound, and the checks are right about it. Assumes nothing.
 use Rattle.std.proofs.Common.{◌≡◌, ℕ, zero, suc, ◌+◌, ◌-◌, ◌*◌, ◌<◌, ◌≤◌, min, max, Bool, true, false, cond, ◌&&◌, ltb, leb, List, [], ◌∷◌, length, get_or, take, set, replicate, IfSome, Some, None, Option, refl, ap, ◌∙◌, arith}
-use Rattle.std.proofs.lemmas.List.{length-replicate, get_or-replicate, get_or_append_left, length-set, length-take-le}
+use Rattle.std.proofs.lemmas.List.{get_or-replicate, get_or_append_left, length-take-le}
 use Rattle.std.proofs.lemmas.Bool.{and_parts, ltb-true, ltb-false, leb-true, cond_both}
 use Rattle.amounts.specs.Kind.{Kind, Lawful}
 use Rattle.sources.specs.Strikes.{struck_at, struck_out}
-use Rattle.plans.specs.Bounding.{bound_at, bounds_go}
+use Rattle.plans.specs.declared.bound_table.Bound.{Bound}
+use Rattle.plans.specs.Bounding.{bound, StraightBound, bounds_go}
 use Rattle.plans.specs.Places.{at}
 use Rattle.plans.specs.Posed.{Meaning}
 use Rattle.plans.specs.Rosters.{Shape, passes, parent_fits, class_fits, parents_fit, padded, roster_of}
 use Rattle.plans.specs.Theorems.{Sound}
-use Rattle.plans.proofs.Straight.{StraightAt, straight_set}
+use Rattle.plans.proofs.Padding.{set_holds, filled_holds}
+use Rattle.plans.proofs.Straight.{bound_holds}
 use Rattle.board.proofs.Checks.{never_wrong}
 use Rattle.board.specs.declared.refusal.Refusal.{Refusal}
 use Rattle.board.specs.declared.refusal.Refusal.TheVariants.{Heavy}
-use Rattle.board.specs.Standing.{Standing, Step, strike, reopen, pin, roster, bounds, limit, question, free_lower, free_upper, with_roster, settled, fault, changed, stepped, played, opened, quote_of, put_by, made_by}
+use Rattle.board.specs.Standing.{Standing, Step, strike, reopen, pin, roster, bounds, limit, question, free_bounds, with_roster, settled, fault, changed, stepped, played, opened, quote_of, put_by, made_by}
 use Rattle.board.specs.Theorems.{Fair, RunsSound, RunsUncrossed, RunsNeverWrong}
 
 -- ---- rosters
@@ -62,41 +64,21 @@ listed n ps hs long e e' =
     }
 
 -- ---- bounds
-record Bounded (lower upper : List ℕ) : Type 0 where
-  pub lowers : length lower ≡ 128
-  pub uppers : length upper ≡ 128
-  pub straight : (i : ℕ) → i < 128 → StraightAt lower upper i
+-- no bound crosses or passes 120
+record Bounded (table : List Bound) : Type 0 where
+  pub straight : (i : ℕ) → StraightBound (get_or table i (bound 0 0))
 
-free_straight : (n : ℕ) (lower upper : List ℕ) → n ≤ 120 → lower ≡ replicate 128 0 → upper ≡ replicate 128 n → (i : ℕ) → i < 128 → StraightAt lower upper i
-free_straight n lower upper few e e' i l = rw (e, e', get_or-replicate {A = ℕ} 128 i 0 0 l, get_or-replicate {A = ℕ} 128 i n 0 l) (omega arith, few)
+free_bounded : (books : ℕ) → Bounded (free_bounds books)
+free_bounded books = record { straight = λ i. filled_holds StraightBound (bound 0 0) 128 i (bound 0 (min books 120)) (omega arith, omega arith) (omega arith, omega arith) }
 
-free_bounded : (books : ℕ) → Bounded free_lower (free_upper books)
-free_bounded books = record {
-  lowers = length-replicate {A = ℕ} 128 0;
-  uppers = length-replicate 128 (min books 120);
-  straight = free_straight (min books 120) free_lower (free_upper books) (omega arith) refl refl;
-}
-
-set_bounded : (lower upper : List ℕ) (i lo up : ℕ) → i < 128 → lo ≤ up → up ≤ 120 → Bounded lower upper → Bounded (set lower i lo) (set upper i up)
-set_bounded lower upper i lo up l h k b = record {
-  lowers = length-set lower i lo ∙ b.lowers;
-  uppers = length-set upper i up ∙ b.uppers;
-  straight = straight_set lower upper i lo up (omega (arith, b.lowers)) (omega (arith, b.uppers)) h k b.straight;
-}
-
--- what holds of the two bounds at each place holds of them for each weekend and class
-bound_holds : (P : ℕ → ℕ → Type 0) (lower upper : List ℕ) → P 0 0 → ((i : ℕ) → i < 128 → P (get_or lower i 0) (get_or upper i 0)) → (w c : ℕ) → P (bound_at lower w c) (bound_at upper w c)
-bound_holds P lower upper none each w c = by (ltb w 16 && ltb c 8) refl
-  where
-    by : (t : Bool) → (ltb w 16 && ltb c 8) ≡ t → P (cond t (get_or lower (w * 8 + c) 0) 0) (cond t (get_or upper (w * 8 + c) 0) 0)
-    by true e = let parts = and_parts (ltb w 16) (ltb c 8) e in each (w * 8 + c) (omega (arith, ltb-true w 16 parts.0, ltb-true c 8 parts.1))
-    by false e = none
+set_bounded : (table : List Bound) (i : ℕ) (b : Bound) → StraightBound b → Bounded table → Bounded (set table i b)
+set_bounded table i b new old = record { straight = λ j. set_holds StraightBound (bound 0 0) table i j b new (old.straight j) }
 
 -- ---- runs
 module _ {V : Type 0} (K : Kind V) (M : Meaning V) where
   record Fit (st : Standing V) : Type 0 where
     pub rostered : Rostered (min M.books 120) st.roster
-    pub bounded : Bounded st.lower st.upper
+    pub bounded : Bounded st.bounds
     pub modest : K.weight st.limit ≤ 1000000000000
 
   fit_settled : (o : Option Refusal) (st st' : Standing V) → Fit st → Fit st' → Fit (settled M o st st')
@@ -120,13 +102,12 @@ module _ {V : Type 0} (K : Kind V) (M : Meaning V) where
   fit_limit st amount true e f = record { rostered = f.rostered; bounded = f.bounded; modest = leb-true (K.weight amount) 1000000000000 e }
   fit_limit st amount false e f = f
 
-  fit_bounds : (st : Standing V) (w c lo up : ℕ) (t : Bool) → bounds_go w c lo up ≡ t → Bounded st.lower st.upper →
-      Bounded (cond t (set st.lower (w * 8 + c) lo) st.lower) (cond t (set st.upper (w * 8 + c) up) st.upper)
+  fit_bounds : (st : Standing V) (w c lo up : ℕ) (t : Bool) → bounds_go w c lo up ≡ t → Bounded st.bounds →
+      Bounded (cond t (set st.bounds (w * 8 + c) (bound lo up)) st.bounds)
   fit_bounds st w c lo up true e b =
       let p₁ = and_parts (ltb w 16 && ltb c 8 && leb lo up) (leb up 120) e in
       let p₂ = and_parts (ltb w 16 && ltb c 8) (leb lo up) p₁.0 in
-      let p₃ = and_parts (ltb w 16) (ltb c 8) p₂.0 in
-      set_bounded st.lower st.upper (w * 8 + c) lo up (omega (arith, ltb-true w 16 p₃.0, ltb-true c 8 p₃.1)) (leb-true lo up p₂.1) (leb-true up 120 p₁.1) b
+      set_bounded st.bounds (w * 8 + c) (bound lo up) (leb-true lo up p₂.1, leb-true up 120 p₁.1) b
   fit_bounds st w c lo up false e b = b
 
   fit_step : (st : Standing V) (s : Step V) → Fit st → Fit (stepped M K st s)
@@ -168,7 +149,7 @@ module _ {V : Type 0} (K : Kind V) (M : Meaning V) where
 
   fit_sound : Fair K M → (st : Standing V) → Fit st → Sound K (put_by M st)
   fit_sound fair st f =
-      let small = f.bounded.straight in
+      let small = bound_holds StraightBound st.bounds (omega arith, omega arith) f.bounded.straight in
       record {
         books = fair.few_books;
         weekends = fair.few_weekends;
@@ -176,8 +157,8 @@ module _ {V : Type 0} (K : Kind V) (M : Meaning V) where
         root = f.rostered.root;
         above = f.rostered.above;
         classed = λ b l. f.rostered.homed b (let h = fair.few_books in omega arith);
-        lowers = λ w c lw lc. bound_holds (λ x y. x ≤ 120) st.lower st.upper (omega arith) (λ i l. let s = small i l in omega (arith, s.0, s.1)) w c;
-        uppers = λ w c lw lc. bound_holds (λ x y. y ≤ 120) st.lower st.upper (omega arith) (λ i l. (small i l).1) w c;
+        lowers = λ w c lw lc. omega (arith, (small w c).0, (small w c).1);
+        uppers = λ w c lw lc. (small w c).1;
         quotes = quotes_light fair st;
         limit = f.modest;
       }
@@ -192,7 +173,7 @@ module _ {V : Type 0} {K : Kind V} (L : Lawful K) where
   pub runs_uncrossed : RunsUncrossed K
   runs_uncrossed M fair ss w c lw lc =
       let st = played M K (opened M K) ss in
-      bound_holds (λ x y. x ≤ y) st.lower st.upper (omega arith) (λ i l. ((fit_run M ss).bounded.straight i l).0) w c
+      (bound_holds StraightBound st.bounds (omega arith, omega arith) (fit_run M ss).bounded.straight w c).0
 
   pub runs_never_wrong : RunsNeverWrong K
   runs_never_wrong M fair ss = never_wrong L (made_by M K ss) (runs_sound M fair ss)

@@ -21,7 +21,7 @@ pub record Desk (S V : Type 0) : Type 0 where
 abbrev pub desk : {S V : Type 0} → StrikeLayer S → Roster → Bounds → V → Desk S V
 desk layer roster bounds limit = record {
   below = layer.below;
-  standing = record { struck = layer.struck.words; roster = shape roster; lower = bounds.lower; upper = bounds.upper; limit = limit };
+  standing = record { struck = layer.struck.words; roster = shape roster; bounds = bounds.table; limit = limit };
 }
 
 module _ {S V : Type 0} (source : Ghosts S V) where

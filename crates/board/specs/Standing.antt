@@ -4,7 +4,8 @@ use Rattle.amounts.specs.Kind.{Kind}
 use Rattle.sources.specs.Strikes.{struck_at, struck_out, with_pair, without_pair}
 use Rattle.plans.specs.declared.class_lists.RosterFault.{RosterFault}
 use Rattle.plans.specs.declared.class_lists.RosterFault.TheVariants.{Short as FewClasses, NoRoster}
-use Rattle.plans.specs.Bounding.{bound_at, bound_set, bounds_go}
+use Rattle.plans.specs.declared.bound_table.Bound.{Bound}
+use Rattle.plans.specs.Bounding.{bound, bound_at, bound_set, bounds_go}
 use Rattle.plans.specs.Places.{at}
 use Rattle.plans.specs.Posed.{Meaning}
 use Rattle.plans.specs.Problem.{Problem}
@@ -17,8 +18,7 @@ use Rattle.board.specs.declared.refusal.Refusal.TheVariants.{Range, Unknown, Cro
 pub record Standing (V : Type 0) : Type 0 where
   pub struck : List ℕ
   pub roster : Shape
-  pub lower : List ℕ
-  pub upper : List ℕ
+  pub bounds : List Bound
   pub limit : V
 
 -- one call; a question changes nothing, whichever it is
@@ -33,20 +33,17 @@ pub data Step (V : Type 0) : Type 0 where
 
 module _ {V : Type 0} (st : Standing V) where
   abbrev pub with_struck : List ℕ → Standing V
-  with_struck words = record { struck = words; roster = st.roster; lower = st.lower; upper = st.upper; limit = st.limit }
+  with_struck words = record { struck = words; roster = st.roster; bounds = st.bounds; limit = st.limit }
 
-  abbrev pub with_bounds : List ℕ → List ℕ → Standing V
-  with_bounds lower upper = record { struck = st.struck; roster = st.roster; lower = lower; upper = upper; limit = st.limit }
+  abbrev pub with_bounds : List Bound → Standing V
+  with_bounds table = record { struck = st.struck; roster = st.roster; bounds = table; limit = st.limit }
 
   abbrev pub with_limit : V → Standing V
-  with_limit amount = record { struck = st.struck; roster = st.roster; lower = st.lower; upper = st.upper; limit = amount }
+  with_limit amount = record { struck = st.struck; roster = st.roster; bounds = st.bounds; limit = amount }
 
 -- all bounds from 0 to the number of books
-abbrev pub free_lower : List ℕ
-free_lower = replicate 128 0
-
-abbrev pub free_upper : ℕ → List ℕ
-free_upper books = replicate 128 (min books 120)
+abbrev pub free_bounds : ℕ → List Bound
+free_bounds books = replicate 128 (bound 0 (min books 120))
 
 -- why two lists that make no roster are refused
 abbrev pub roster_refusal : RosterFault → Refusal
@@ -69,7 +66,7 @@ module _ {V : Type 0} (M : Meaning V) where
 
   -- a new roster sets all bounds back; lists that make none change nothing
   abbrev pub with_roster : Standing V → Result Shape RosterFault → Standing V
-  with_roster st (Ok shape) = record { struck = st.struck; roster = shape; lower = free_lower; upper = free_upper M.books; limit = st.limit }
+  with_roster st (Ok shape) = record { struck = st.struck; roster = shape; bounds = free_bounds M.books; limit = st.limit }
   with_roster st (Err f) = st
 
   -- what a taken call makes of the board
@@ -78,8 +75,7 @@ module _ {V : Type 0} (M : Meaning V) where
   changed st (reopen b w) = with_struck st (without_pair st.struck b w)
   changed st (pin b w) = with_struck st (pinned st b w M.weekends)
   changed st (roster parents classes) = with_roster st (roster_of M.books parents classes)
-  changed st (bounds w c lower upper) =
-      with_bounds st (bound_set (bounds_go w c lower upper) st.lower w c lower) (bound_set (bounds_go w c lower upper) st.upper w c upper)
+  changed st (bounds w c lower upper) = with_bounds st (bound_set (bounds_go w c lower upper) st.bounds w c (bound lower upper))
   changed st (limit amount) = with_limit st amount
   changed st question = st
 
@@ -124,8 +120,7 @@ module _ {V : Type 0} (M : Meaning V) where
   opened K = record {
     struck = replicate 120 0;
     roster = record { classes = 1; parents = replicate 8 0; homes = replicate 120 0 };
-    lower = free_lower;
-    upper = free_upper M.books;
+    bounds = free_bounds M.books;
     limit = K.none;
   }
 
@@ -137,8 +132,8 @@ module _ {V : Type 0} (M : Meaning V) where
     classes = st.roster.classes;
     parent = at st.roster.parents;
     class = at st.roster.homes;
-    lower = bound_at st.lower;
-    upper = bound_at st.upper;
+    lower = λ w c. (bound_at st.bounds w c).lower;
+    upper = λ w c. (bound_at st.bounds w c).upper;
     quote = quote_of st;
     limit = st.limit;
   }

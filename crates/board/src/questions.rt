@@ -3,14 +3,14 @@ ghost use Rattle.std.specs.Prelude.{◌≡◌, true, Ok, nat_le, unsigned_abs};
 ghost use Rattle.std.specs.List.{list_all};
 ghost use Rattle.plans.specs.Problem.{Possible};
 ghost use Rattle.plans.specs.Theorems.{Sound};
-ghost use Rattle.board.specs.Boards.{posed};
+ghost use Rattle.board.specs.Boards.{desk, posed};
 ghost use Rattle.board.specs.Questions.{places as places_of, toll_check as the_toll_check, head_check as the_head_check};
 
 use crate::desk::{Board, HEAVIEST};
 use crate::refusal::Refusal;
 use amounts::Amount;
-use plans::{head_accepts, toll_accepts};
-use sources::Source;
+use plans::Setting;
+use sources::{Source, StrikeLayer};
 
 // Whether the entries of a toll sheet are light.
 fn are_light<X: Amount>(entries: &[X]) -> bool
@@ -27,6 +27,17 @@ fn are_heads(entries: &[i8]) -> bool
 }
 
 impl<S: Source> Board<S> {
+    // What plans are sought over on this board: all of it but the limit.
+    fn setting(&self) -> Setting<'_, StrikeLayer<S>>
+        ensures { desk result.source.now result.roster.now result.bounds.now self.now.standing.limit ≡ self.now }
+    {
+        Setting {
+            source: &self.layer,
+            roster: &self.roster,
+            bounds: &self.bounds,
+        }
+    }
+
     // How many places a sheet needs: one for each weekend and class.
     fn places(&self) -> usize
         ensures { result ≡ places_of (posed S.Source self.now) }
@@ -58,7 +69,7 @@ impl<S: Source> Board<S> {
             return Err(Refusal::Heavy);
         }
         self.look_at_quotes();
-        Ok(toll_accepts(&self.layer, &self.roster, &self.bounds, self.limit, sheet))
+        Ok(self.setting().toll_accepts(self.limit, sheet))
     }
 
     // The same of a head sheet, with entries -1, 0 or 1, every quote counted 0, and limit 0: it shows that there is no plan at all.
@@ -74,6 +85,6 @@ impl<S: Source> Board<S> {
             return Err(Refusal::Range);
         }
         self.look_at_quotes();
-        Ok(head_accepts(&self.layer, &self.roster, &self.bounds, sheet))
+        Ok(self.setting().head_accepts(sheet))
     }
 }

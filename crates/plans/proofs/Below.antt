@@ -1,6 +1,16 @@
 -- Tests below a number: each passes, some pass. Assumes nothing.
-use Rattle.std.proofs.Common.{◌≡◌, ℕ, zero, suc, ◌+◌, ◌<◌, Bool, true, false, cond, ◌||◌, is_some, Some, None, Option, sym, refl, ap, ◌∙◌, ap₂, ⊎_elim, add-one, arith}
-use Rattle.std.proofs.lemmas.Bool.{cases_eq, and_parts, and_from, or_left, or_right, or_cases, false≢true}
+use Rattle.std.proofs.Common.{◌≡◌, ℕ, zero, suc, ◌+◌, ◌<◌, Bool, true, false, cond, ◌||◌, List, is_some, Some, None, Option, sym, refl, ap, ◌∙◌, ap₂, ⊎_elim, length, zero-add, add-one, arith}
+use Rattle.std.specs.Bool.{MatchBool}
+use Rattle.std.specs.Fn.{Called}
+use Rattle.std.specs.Iterator.{YieldsThen}
+use Rattle.std.specs.List.{range_with_len, FoldsTo, HoldsAt, AllWithin}
+use Rattle.std.specs.Option.{MatchOption}
+use Rattle.std.specs.declared.ops.Range.{Range}
+use Rattle.std.proofs.iter.Yields.{nat_range_steps}
+use Rattle.std.proofs.lemmas.Iterator.{YieldsList-from_range, cases_from_any}
+use Rattle.std.proofs.lemmas.List.FromFn.{length-range_with_len, get_or-range_with_len}
+use denote.Param.Members.{Mut}
+use Rattle.std.proofs.lemmas.Bool.{cases_eq, and_parts, and_from, or_left, or_right, or_cases, or_from, false≢true}
 use Rattle.amounts.specs.Kind.{Kind}
 use Rattle.amounts.specs.Least.{better, least_of, or_none}
 use Rattle.plans.specs.Sheets.{each_below, some_below, smallest}
@@ -31,6 +41,30 @@ some_from (suc n) i t l e =
     (λ (q : i ≡ n). or_left (t n) (some_below n t) (ap t (sym q) ∙ e))
     (λ (d : i ≡ n → ⊥). or_right (t n) (some_below n t) (some_from n i t (omega arith) e))
     (cases_eq i n)
+
+none_below : (n : ℕ) (t : ℕ → Bool) → ((i : ℕ) → i < n → t i ≡ false) → some_below n t ≡ false
+unfolding some_below
+none_below zero t h = refl
+none_below (suc n) t h = or_from (t n) (some_below n t) (h n (omega arith)) (none_below n t (λ i l. h i (omega arith)))
+
+some_told : (n : ℕ) (t : ℕ → Bool) (r : Bool)
+    → MatchBool r ((k : ℕ) × (k < length (range_with_len 0 n)) × HoldsAt (λ i. t i ≡ true) (range_with_len 0 n) k) (AllWithin (λ i. t i ≡ false) (range_with_len 0 n) 0 (length (range_with_len 0 n)))
+    → r ≡ some_below n t
+some_told n t true h =
+    let l : h.0 < n = omega (arith, h.1, length-range_with_len 0 n) in
+    sym (some_from n h.0 t l (ap t (sym (get_or-range_with_len 0 n h.0 0 l ∙ zero-add h.0)) ∙ h.2 0))
+some_told n t false h =
+    sym (none_below n t (λ i l. ap t (sym (get_or-range_with_len 0 n i 0 l ∙ zero-add i)) ∙ h i 0 (omega arith) (omega (arith, length-range_with_len 0 n))))
+
+-- `(0..n).any(t)`
+pub some_of_any : {F : Type 0} (g : Mut F (ℕ × Unit {0}) Bool) {f : F} {u : Range ℕ} (n : ℕ) (t : ℕ → Bool) {end : ℕ} {r : Bool}
+    → (xs : List ℕ) × (o : Option ℕ) × (j : F) × YieldsThen nat_range_steps (record { start = 0; end = end }) xs o u × FoldsTo (λ p x q. Called g p (x, tt) false q) f xs j
+    × MatchOption o (r ≡ false) (λ x. (r ≡ true) × ((h : F) × Called g j (x, tt) true h))
+    → end ≡ n → ((x : ℕ) (b : Bool) (q : F) → Called g f (x, tt) b q → (q ≡ f) × (b ≡ t x)) → r ≡ some_below n t
+some_of_any g {f} {u} n t {end} {r} ran long tests =
+    some_told n t r
+    (cases_from_any u f r (λ i. t i ≡ true) (λ i. t i ≡ false) ran (YieldsList-from_range 0 end n refl (omega arith)) (λ x q k. sym (tests x true q k).1)
+    (λ x q k. let e = tests x false q k in (e.0, sym e.1)))
 
 pub or_passes : (x y : Bool) → x ≡ false → (x || y) ≡ y
 or_passes x y e = ap (λ b. b || y) e

@@ -1,27 +1,12 @@
 -- Which lists a roster is read from, and what it holds. Assumes nothing.
-use Rattle.std.proofs.Common.{◌≡◌, ℕ, zero, suc, ◌+◌, ◌-◌, ◌<◌, ◌≤◌, min, max, Bool, true, false, cond, ◌&&◌, ltb, leb, List, [], ◌∷◌, length, get_or, take, replicate, Ok, Err, Result, sym, refl, ap, ◌∙◌, subst, arith}
+use Rattle.std.proofs.Common.{◌≡◌, ℕ, zero, suc, ◌+◌, ◌-◌, ◌<◌, ◌≤◌, min, max, Bool, true, false, cond, ◌&&◌, ltb, leb, List, length, get_or, take, replicate, Ok, Err, Result, sym, refl, ap, ◌∙◌, subst, arith}
 use Rattle.std.proofs.lemmas.List.{get_or_append_left, get_or-take, length-take-le}
 use Rattle.std.proofs.lemmas.Bool.{and_parts, and_from, ltb-true, ltb-false, lt-ltb, le-ltb, leb-true, le-leb}
 use Rattle.plans.specs.declared.class_lists.RosterFault.{RosterFault}
 use Rattle.plans.specs.declared.class_lists.RosterFault.TheVariants.{Short, NoRoster}
 use Rattle.plans.specs.Places.{at}
+use Rattle.plans.proofs.Padding.{passes_at, passes_from}
 use Rattle.plans.specs.Rosters.{Shape, passes, parent_fits, class_fits, padded, parents_fit, MakesRoster, Holds, RosterRead}
-
-passes_at : (t : ℕ → ℕ → Bool) (i : ℕ) (xs : List ℕ) → passes t i xs ≡ true → (j : ℕ) → j < length xs → t (i + j) (get_or xs j 0) ≡ true
-passes_at t i [] e j l = absurd (omega arith)
-passes_at t i (x ∷ xs) e zero l =
-    let z : i + 0 ≡ i = omega arith in
-    ap (λ k. t k x) z ∙ (and_parts (t i x) (passes t (i + 1) xs) e).0
-passes_at t i (x ∷ xs) e (suc j) l =
-    let z : i + suc j ≡ i + 1 + j = omega arith in
-    ap (λ k. t k (get_or xs j 0)) z ∙ passes_at t (i + 1) xs (and_parts (t i x) (passes t (i + 1) xs) e).1 j (omega arith)
-
-passes_from : (t : ℕ → ℕ → Bool) (i : ℕ) (xs : List ℕ) → ((j : ℕ) → j < length xs → t (i + j) (get_or xs j 0) ≡ true) → passes t i xs ≡ true
-passes_from t i [] h = refl
-passes_from t i (x ∷ xs) h =
-    let z : i ≡ i + 0 = omega arith in
-    and_from (t i x) (passes t (i + 1) xs) (ap (λ k. t k x) z ∙ h 0 (omega arith))
-    (passes_from t (i + 1) xs (λ j l. let z : i + 1 + j ≡ i + suc j = omega arith in ap (λ k. t k (get_or xs j 0)) z ∙ h (suc j) (omega arith)))
 
 module _ (books : ℕ) (parents classes : List ℕ) where
   abbrev n : ℕ

@@ -1,10 +1,12 @@
 -- Members and tolls, by a walk up the classes and class by class. Assumes nothing.
 use Rattle.std.proofs.Common.{◌≡◌, ℕ, zero, suc, ◌*◌, ◌^◌, ◌<◌, ◌≤◌, Bool, true, false, cond, ◌||◌, eqb, sym, refl, ap, ◌∙◌, ap₂, ⊎_elim, arith}
-use Rattle.std.proofs.lemmas.Bool.{eqb-true, eq-eqb, ne_eqb, or_cases, or_left, or_right}
+use Rattle.std.proofs.lemmas.Bool.{eqb-true, eq-eqb, ne_eqb, or_cases, or_left, or_right, cases_lt}
 use Rattle.amounts.specs.Kind.{Kind, Lawful, law_limit}
 use Rattle.amounts.specs.Sums.{sum_below, weights}
 use Rattle.amounts.proofs.Order.{cond_weight, cond_apart}
 use Rattle.amounts.proofs.Sums.{weights_le, sum_same, sum_plus, sum_pick}
+use Rattle.plans.specs.declared.class_tree.Roster.{Roster}
+use Rattle.plans.specs.Places.{at}
 use Rattle.plans.specs.Problem.{climbs, iterated, member}
 use Rattle.plans.specs.Sheets.{upward, toll}
 use Rattle.plans.specs.Theorems.{MemberIs, TollByMembers}
@@ -132,3 +134,7 @@ pub member_is : {V : Type 0} (K : Kind V) → MemberIs K
 unfolding member
 member_is K B b c s lb =
     (climbs_met B.parent (B.class b) (B.class b) c, λ m. climbs_all B.parent s.root B.classes s.above (B.class b) m.0 (B.class b) c (omega arith) (s.classed b lb) m.1)
+
+-- in a roster each class but 0 has a parent with a smaller number, also one that is not there
+pub parent_below : (r : Roster) (c : ℕ) → 0 < c → at r.parents c < c
+parent_below r c some = ⊎_elim (λ (l : c < r.classes). r.sound.3 c some l) (λ (l : r.classes ≤ c). omega (arith, r.sound.5 c l)) (cases_lt c r.classes)

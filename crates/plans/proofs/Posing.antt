@@ -1,40 +1,32 @@
 -- What a source, a roster and bounds put is in range; and heads in coins are read as whole numbers. Assumes nothing.
-use Rattle.std.proofs.Common.{◌≡◌, ℕ, ◌+◌, ◌*◌, ◌<◌, ◌≤◌, Bool, true, false, cond, ◌&&◌, ltb, List, get_or, ℤ, pos, nat_abs, refl, ap, ◌∙◌, mul-le-mul, arith}
-use Rattle.std.proofs.lemmas.Bool.{and_parts, ltb-true, cond_both}
+use Rattle.std.proofs.Common.{◌≡◌, ℕ, ◌+◌, ◌*◌, ◌<◌, ◌≤◌, List, get_or, ℤ, pos, nat_abs, refl, ap, ◌∙◌, mul-le-mul, arith}
 use Rattle.amounts.specs.declared.money.Money.{Money}
 use Rattle.amounts.specs.Kind.{Kind}
 use Rattle.amounts.specs.Models.{money, money_kind, integers}
 use Rattle.plans.specs.declared.class_tree.Roster.{Roster}
 use Rattle.plans.specs.declared.bound_table.Bounds.{Bounds}
-use Rattle.plans.specs.Bounding.{bound_at}
+use Rattle.plans.specs.Bounding.{StraightBound, bound_at}
 use Rattle.plans.specs.Posed.{Meaning, problem}
 use Rattle.plans.specs.Problem.{member, count, total}
 use Rattle.plans.specs.Sheets.{entries, toll_accepts, head_accepts, recounted, heads}
 use Rattle.plans.specs.Theorems.{PosedSound, AssignedIs}
 use Rattle.plans.proofs.Verdicts.{place_below}
+use Rattle.plans.proofs.Straight.{bound_holds}
 use Rattle.plans.proofs.Rereading.{accepts_same}
 use Rattle.plans.proofs.Coined.{accepts_coined}
 
--- what holds of every place holds of every bound
-bound_small : (xs : List ℕ) → ((i : ℕ) → i < 128 → get_or xs i 0 ≤ 120) → (w c : ℕ) → bound_at xs w c ≤ 120
-bound_small xs small w c =
-    cond_both (ltb w 16 && ltb c 8) (get_or xs (w * 8 + c) 0) 0 (λ n. n ≤ 120)
-    (λ e. let parts = and_parts (ltb w 16) (ltb c 8) e in small (w * 8 + c) (omega (arith, ltb-true w 16 parts.0, ltb-true c 8 parts.1)))
-    (λ _. omega arith)
+-- bounds do not cross or pass 120, wherever they are read
+straight_read : (b : Bounds) (w c : ℕ) → StraightBound (bound_at b.table w c)
+straight_read b = bound_holds StraightBound b.table (omega arith, omega arith) b.straight
 
-lower_small : (b : Bounds) (w c : ℕ) → bound_at b.lower w c ≤ 120
-lower_small b = bound_small b.lower (λ i l. let s = b.straight i l in omega (arith, s.0, s.1))
+pub bounds_straight : (b : Bounds) (w c : ℕ) → (bound_at b.table w c).lower ≤ (bound_at b.table w c).upper
+bounds_straight b w c = (straight_read b w c).0
 
-upper_small : (b : Bounds) (w c : ℕ) → bound_at b.upper w c ≤ 120
-upper_small b = bound_small b.upper (λ i l. (b.straight i l).1)
+upper_small : (b : Bounds) (w c : ℕ) → (bound_at b.table w c).upper ≤ 120
+upper_small b w c = (straight_read b w c).1
 
--- bounds do not cross, wherever they are read
-pub bounds_straight : (b : Bounds) (w c : ℕ) → bound_at b.lower w c ≤ bound_at b.upper w c
-bounds_straight b w c = go (ltb w 16 && ltb c 8) refl
-  where
-    go : (t : Bool) → (ltb w 16 && ltb c 8) ≡ t → cond t (get_or b.lower (w * 8 + c) 0) 0 ≤ cond t (get_or b.upper (w * 8 + c) 0) 0
-    go true e = let parts = and_parts (ltb w 16) (ltb c 8) e in (b.straight (w * 8 + c) (omega (arith, ltb-true w 16 parts.0, ltb-true c 8 parts.1))).0
-    go false e = omega arith
+lower_small : (b : Bounds) (w c : ℕ) → (bound_at b.table w c).lower ≤ 120
+lower_small b w c = omega (arith, bounds_straight b w c, upper_small b w c)
 
 pub posed_sound : {V : Type 0} (K : Kind V) → PosedSound K
 posed_sound K source roster bounds limit books weekends quotes light = record {

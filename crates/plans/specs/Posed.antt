@@ -6,6 +6,7 @@ use Rattle.amounts.specs.Sums.{sum_below, tally}
 use Rattle.sources.specs.declared.meaning.Source.{Ghosts}
 use Rattle.plans.specs.declared.class_tree.Roster.{Roster}
 use Rattle.plans.specs.declared.bound_table.Bounds.{Bounds}
+use Rattle.plans.specs.declared.setting.Setting.{Setting}
 use Rattle.plans.specs.Places.{at}
 use Rattle.plans.specs.Bounding.{bound_at}
 use Rattle.plans.specs.Problem.{Problem, climbs}
@@ -29,11 +30,15 @@ problem source roster bounds limit = record {
   classes = roster.classes;
   parent = at roster.parents;
   class = at roster.homes;
-  lower = bound_at bounds.lower;
-  upper = bound_at bounds.upper;
+  lower = λ w c. (bound_at bounds.table w c).lower;
+  upper = λ w c. (bound_at bounds.table w c).upper;
   quote = source.quote;
   limit = limit;
 }
+
+-- the problem that a setting puts, with a limit
+abbrev pub put : {S V : Type 0} → Ghosts S V → Setting S → V → Problem V
+put source s limit = problem (meaning source s.source.now) s.roster.now s.bounds.now limit
 
 module _ {V : Type 0} (K : Kind V) where
   -- the toll of a book at a weekend, by a roster and a sheet
@@ -42,7 +47,7 @@ module _ {V : Type 0} (K : Kind V) where
 
   -- the most that can be paid for the entry of a weekend and a class
   abbrev pub bounds_ceiling : ℕ → Bounds → List V → ℕ → ℕ → V
-  bounds_ceiling classes bounds sheet w c = ceiling_of K (bound_at bounds.lower w c) (bound_at bounds.upper w c) (entries K classes sheet w c)
+  bounds_ceiling classes bounds sheet w c = ceiling_of K (bound_at bounds.table w c).lower (bound_at bounds.table w c).upper (entries K classes sheet w c)
 
   -- what an assignment comes to, where place b of a list is the weekend of book b
   abbrev pub assignment_total : Meaning V → List ℕ → V

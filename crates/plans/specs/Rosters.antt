@@ -1,5 +1,5 @@
 -- Rosters: the classes as lists keep them, and which lists make one. Assumes nothing.
-use Rattle.std.specs.Prelude.{◌≡◌, ℕ, ◌+◌, ◌-◌, ◌<◌, ◌≤◌, min, max, Bool, true, cond, ◌&&◌, List, [], ◌∷◌, ◌++◌, length, take, replicate, Some, None, Ok, Err, Option, Result, nat_le, nat_lt}
+use Rattle.std.specs.Prelude.{◌≡◌, ℕ, ◌+◌, ◌-◌, ◌<◌, ◌≤◌, min, max, Bool, true, cond, ◌&&◌, List, [], ◌∷◌, ◌++◌, length, take, replicate, Ok, Err, Result, nat_le, nat_lt}
 use Rattle.plans.specs.declared.class_lists.RosterFault.{RosterFault}
 use Rattle.plans.specs.declared.class_lists.RosterFault.TheVariants.{Short, NoRoster}
 use Rattle.plans.specs.declared.class_tree.Roster.{Roster}
@@ -40,14 +40,6 @@ padded n xs = xs ++ replicate (n - length xs) 0
 -- do the parents of 1 to 8 classes stand in the list?
 abbrev pub parents_fit : List ℕ → Bool
 parents_fit parents = nat_le 1 (length parents) && nat_le (length parents) 8 && passes parent_fits 0 parents
-
--- the parents as a roster keeps them, if they fit
-abbrev pub parents_kept : List ℕ → Option (List ℕ)
-parents_kept parents = cond (parents_fit parents) (Some (padded 8 parents)) None
-
--- the classes of the books as a roster keeps them, if each is one of so many
-abbrev pub homes_kept : ℕ → List ℕ → Option (List ℕ)
-homes_kept classes homes = cond (passes (class_fits classes) 0 homes) (Some (padded 120 homes)) None
 
 -- the roster of so many books (of 120 at most). Fewer classes than books decides first, and only the classes of these books are read
 abbrev pub roster_of : ℕ → List ℕ → List ℕ → Result Shape RosterFault

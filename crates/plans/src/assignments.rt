@@ -1,10 +1,9 @@
 // Assignments: what one comes to, and how many members of a class it sends to a weekend.
-ghost use Rattle.std.specs.Prelude.{◌≡◌, ◌&&◌, ◌==◌};
+ghost use Rattle.std.specs.Prelude.{◌≡◌};
 ghost use Rattle.plans.specs.Places.{at};
-ghost use Rattle.plans.specs.Posed.{meaning, assignment_total, assignment_count, is_member};
+ghost use Rattle.plans.specs.Posed.{meaning, assignment_total, assignment_count};
 
 use crate::class_tree::Roster;
-use crate::floors::or_zero;
 use amounts::Amount;
 use sources::Source;
 
@@ -12,30 +11,19 @@ use sources::Source;
 fn weekend_of(assignment: &[u8], book: usize) -> usize
     ensures { result ≡ at assignment.now book }
 {
-    if book < assignment.len() {
-        usize::from(assignment[book])
-    } else {
-        0
-    }
+    usize::from(assignment.get(book).copied().unwrap_or(0))
 }
 
 // The sum of the quotes of an assignment; a shut pair counts zero.
 pub fn total_of<S: Source>(source: &S, assignment: &[u8]) -> S::Quote
     ensures { result ≡ assignment_total S.Quote.Amount.kind (meaning S.Source source.now) assignment.now }
 {
-    let mut sum = S::Quote::zero();
-    for book in 0..source.books() {
-        let weekend = weekend_of(assignment, book);
-        sum = sum.sum(or_zero(source.quote(book, weekend)));
-    }
-    sum
-}
-
-// Is the book a member of the class, and sent to the weekend?
-fn counts(roster: &Roster, assignment: &[u8], weekend: usize, class: usize, book: usize) -> bool
-    ensures { result ≡ (at assignment.now book == weekend && is_member roster.now book class) }
-{
-    weekend_of(assignment, book) == weekend && roster.member(book, class)
+    (0..source.books())
+        .map(|book| {
+            let weekend = weekend_of(assignment, book);
+            source.quote(book, weekend).unwrap_or(S::Quote::zero())
+        })
+        .fold(S::Quote::zero(), S::Quote::sum)
 }
 
 // How many of the first `books` books are members of the class and sent to the weekend.
@@ -48,11 +36,7 @@ pub fn count_of(
 ) -> usize
     ensures { result ≡ assignment_count roster.now books assignment.now weekend class }
 {
-    let mut members: usize = 0;
-    for book in 0..books {
-        if counts(roster, assignment, weekend, class, book) {
-            members += 1;
-        }
-    }
-    members
+    (0..books)
+        .filter(|book| { weekend_of(assignment, *book) == weekend && roster.member(*book, class) })
+        .count()
 }

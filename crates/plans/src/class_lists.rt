@@ -1,11 +1,12 @@
 // A roster from two lists: the parents of the classes, and the classes of the books.
-ghost use Rattle.std.specs.Prelude.{◌≡◌, ℕ, ◌<◌, ◌≤◌, max, length, IfSome, slice_index};
-ghost use Rattle.plans.specs.Rosters.{parents_kept, homes_kept, roster_of, shaped};
+ghost use Rattle.std.specs.Prelude.{◌≡◌, ℕ, ◌<◌, ◌≤◌, length, slice_index};
+ghost use Rattle.plans.specs.Rosters.{passes, class_fits, padded, parents_fit as the_parents_fit, roster_of, shaped};
 
 use crate::class_tree::Roster;
+use std::array;
 
 // Why two lists make no roster.
-#[derive(Clone, Copy)]
+#[derive(Clone, Copy, Debug, PartialEq, Eq)]
 pub enum RosterFault {
     // There are fewer classes than books.
     Short,
@@ -13,42 +14,31 @@ pub enum RosterFault {
     NoRoster,
 }
 
-// The parents of up to eight classes, each smaller than its class, in a fixed array.
-fn parents_of(parents: &[usize]) -> Option<[u8; 8]>
-    ensures value { result ≡ parents_kept parents.now }
-    ensures sound { IfSome result (λ row. (1 ≤ length parents.now) × (length parents.now ≤ 8) × ((c : ℕ) → c < length parents.now → slice_index row c < max 1 c)) }
+// Are these the parents of one to eight classes, each but that of class 0 smaller than its class?
+fn parents_fit(parents: &[usize]) -> bool
+    ensures { result ≡ the_parents_fit parents.now }
 {
-    if parents.len() < 1 || parents.len() > 8 {
-        return None;
-    }
-    let mut row = [0u8; 8];
-    for c in 0..parents.len() {
-        let parent = parents[c];
-        if parent >= c.max(1) {
-            return None;
-        }
-        row[c] = parent as u8;
-    }
-    Some(row)
+    (1..=8).contains(&parents.len())
+        && parents
+            .iter()
+            .enumerate()
+            .all(|(class, parent)| *parent < class.max(1))
 }
 
-// The classes of the books, each one of so many, in a fixed array.
-fn homes_of(classes: usize, homes: &[usize]) -> Option<[u8; 120]>
-    requires some { 1 ≤ classes }
-    requires few { classes ≤ 8 }
-    requires room { length homes.now ≤ 120 }
-    ensures value { result ≡ homes_kept classes homes.now }
-    ensures sound { IfSome result (λ row. (b : ℕ) → b < 120 → slice_index row b < classes) }
+// Is each book in one of so many classes?
+fn homes_fit(classes: usize, homes: &[usize]) -> bool
+    ensures { result ≡ passes (class_fits classes) 0 homes.now }
 {
-    let mut row = [0u8; 120];
-    for b in 0..homes.len() {
-        let home = homes[b];
-        if home >= classes {
-            return None;
-        }
-        row[b] = home as u8;
-    }
-    Some(row)
+    homes.iter().all(|home| *home < classes)
+}
+
+// A list of small numbers in a fixed array, with zeros behind them.
+fn row_of<const N: usize>(numbers: &[usize]) -> [u8; N]
+    requires room { length numbers.now ≤ N }
+    requires small { (i : ℕ) → slice_index numbers.now i < 256 }
+    ensures { result ≡ padded N numbers.now }
+{
+    array::from_fn(|place| numbers.get(place).copied().unwrap_or(0) as u8)
 }
 
 impl Roster {
@@ -61,16 +51,10 @@ impl Roster {
     ) -> Result<Self, RosterFault>
         ensures { shaped result ≡ roster_of books parents.now classes.now }
     {
-        let count = books.min(120);
-        if classes.len() < count {
-            return Err(RosterFault::Short);
+        let homes = classes.get(..books.min(120)).ok_or(RosterFault::Short)?;
+        if !parents_fit(parents) || !homes_fit(parents.len(), homes) {
+            return Err(RosterFault::NoRoster);
         }
-        let Some(tree) = parents_of(parents) else {
-            return Err(RosterFault::NoRoster);
-        };
-        let Some(homes) = homes_of(parents.len(), &classes[..count]) else {
-            return Err(RosterFault::NoRoster);
-        };
-        Ok(Roster::new(parents.len(), tree, homes))
+        Ok(Roster::new(parents.len(), row_of(parents), row_of(homes)))
     }
 }

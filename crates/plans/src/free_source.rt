@@ -38,9 +38,6 @@ impl<'a, S: Source> Source for FreeSource<'a, S> {
     }
 
     fn quote(&self, book: usize, weekend: usize) -> Option<Money> {
-        match self.below.quote(book, weekend) {
-            Some(_) => Some(Money::zero()),
-            None => None,
-        }
+        self.below.quote(book, weekend).map(|_| Money::zero())
     }
 }

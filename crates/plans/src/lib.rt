@@ -13,18 +13,17 @@ mod free_source;
 mod heads;
 mod network;
 mod promises;
+mod setting;
 mod tolls;
 
 pub use arcs::Arc;
 pub use assignments::{count_of, total_of};
 pub use bound_table::Bounds;
-pub use checks::toll_accepts;
 pub use class_lists::RosterFault;
 pub use class_tree::Roster;
-pub use floors::floor;
 pub use flow_promises::{hole_stands, labels_stand, searches_stand, soft_bounds_stand};
-pub use heads::head_accepts;
 pub use network::{fall, rise, violation};
 pub use promises::{
     checks_stand, counts_stand, duality_stands, problems_stand, rosters_stand, trials_stand,
 };
+pub use setting::Setting;

@@ -1,6 +1,6 @@
 use crate::six_quotes::SixQuotes;
 use amounts::Money;
-use plans::{Bounds, Roster, count_of, floor, head_accepts, toll_accepts, total_of};
+use plans::{Bounds, Roster, Setting, count_of, total_of};
 use std::test::Fail;
 
 const BOARD_Z: SixQuotes = SixQuotes {
@@ -8,10 +8,7 @@ const BOARD_Z: SixQuotes = SixQuotes {
 };
 
 fn roster() -> Result<Roster, Fail> {
-    match Roster::from_lists(&[0, 0], &[0, 0, 1], 3) {
-        Ok(roster) => Ok(roster),
-        Err(_) => Err(Fail::new("no roster")),
-    }
+    Roster::from_lists(&[0, 0], &[0, 0, 1], 3).map_err(|_| Fail::new("no roster"))
 }
 
 fn bounds() -> Bounds {
@@ -20,6 +17,18 @@ fn bounds() -> Bounds {
     bounds.set(1, 0, 1, 2);
     bounds.set(1, 1, 1, 1);
     bounds
+}
+
+fn over<'a>(
+    source: &'a SixQuotes,
+    roster: &'a Roster,
+    bounds: &'a Bounds,
+) -> Setting<'a, SixQuotes> {
+    Setting {
+        source,
+        roster,
+        bounds,
+    }
 }
 
 fn coins(value: i64) -> Money {
@@ -49,10 +58,11 @@ fn an_assignment_adds_up(rt: HostRuntime) -> Result<(), Fail> {
 fn floors_of_toll_sheets(rt: HostRuntime) -> Result<(), Fail> {
     let roster = roster()?;
     let bounds = bounds();
-    assert_eq!(rt; floor(&BOARD_Z, &roster, &bounds, &at_leaf(-4)).value, 8);
-    assert_eq!(rt; floor(&BOARD_Z, &roster, &bounds, &at_root(1)).value, 3);
-    assert_eq!(rt; floor(&BOARD_Z, &roster, &bounds, &at_root(-1)).value, 4);
-    assert_eq!(rt; floor(&BOARD_Z, &roster, &bounds, &[]).value, 4);
+    let board_z = over(&BOARD_Z, &roster, &bounds);
+    assert_eq!(rt; board_z.floor(&at_leaf(-4)).value, 8);
+    assert_eq!(rt; board_z.floor(&at_root(1)).value, 3);
+    assert_eq!(rt; board_z.floor(&at_root(-1)).value, 4);
+    assert_eq!(rt; board_z.floor(&[]).value, 4);
     Ok(())
 }
 
@@ -60,9 +70,10 @@ fn floors_of_toll_sheets(rt: HostRuntime) -> Result<(), Fail> {
 fn a_toll_sheet_shows_that_seven_is_too_low(rt: HostRuntime) -> Result<(), Fail> {
     let roster = roster()?;
     let bounds = bounds();
+    let board_z = over(&BOARD_Z, &roster, &bounds);
     let sheet = at_leaf(-4);
-    assert!(rt; toll_accepts(&BOARD_Z, &roster, &bounds, coins(7), &sheet));
-    assert!(rt; !toll_accepts(&BOARD_Z, &roster, &bounds, coins(8), &sheet));
+    assert!(rt; board_z.toll_accepts(coins(7), &sheet));
+    assert!(rt; !board_z.toll_accepts(coins(8), &sheet));
     Ok(())
 }
 
@@ -70,10 +81,12 @@ fn a_toll_sheet_shows_that_seven_is_too_low(rt: HostRuntime) -> Result<(), Fail>
 fn a_head_sheet_shows_that_there_is_no_plan(rt: HostRuntime) -> Result<(), Fail> {
     let roster = roster()?;
     let mut bounds = bounds();
-    assert!(rt; !head_accepts(&BOARD_Z, &roster, &bounds, &[-1, 0, 0, -1]));
+    let sheet = [-1, 0, 0, -1];
+    assert!(rt; !over(&BOARD_Z, &roster, &bounds).head_accepts(&sheet));
     bounds.set(0, 0, 3, 3);
-    assert!(rt; head_accepts(&BOARD_Z, &roster, &bounds, &[-1, 0, 0, -1]));
-    assert!(rt; !head_accepts(&BOARD_Z, &roster, &bounds, &[0, 0, 0, 0]));
+    let full = over(&BOARD_Z, &roster, &bounds);
+    assert!(rt; full.head_accepts(&sheet));
+    assert!(rt; !full.head_accepts(&[0, 0, 0, 0]));
     Ok(())
 }
 
@@ -84,7 +97,8 @@ fn a_book_with_no_open_weekend(rt: HostRuntime) -> Result<(), Fail> {
     let source = SixQuotes {
         coins: [4, 1, 2, 3, 0, 0],
     };
-    assert!(rt; head_accepts(&source, &roster, &bounds, &[0, 0, 0, 0]));
-    assert!(rt; toll_accepts(&source, &roster, &bounds, coins(1000), &[]));
+    let setting = over(&source, &roster, &bounds);
+    assert!(rt; setting.head_accepts(&[0, 0, 0, 0]));
+    assert!(rt; setting.toll_accepts(coins(1000), &[]));
     Ok(())
 }

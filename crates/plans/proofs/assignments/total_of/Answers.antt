@@ -1,19 +1,11 @@
-use Rattle.std.proofs.Common.{ap, ◌∙◌, ap₂}
+use Rattle.std.proofs.Common.{rules, ℕ}
 use Rattle.amounts.specs.Least.{or_none}
-use Rattle.amounts.specs.Sums.{sum_below}
-use Rattle.amounts.proofs.Sums.{sum_more}
 use Rattle.plans.specs.Places.{at}
+use Rattle.amounts.proofs.Chains.{sum_of_map}
 use Rattle.plans.proofs.assignments.total_of.Goals as goal
 
-pub loop-book-init : goal.loop-book-init
-unfolding sum_below
-loop-book-init g c = c.zero-sum.ensures
-
-pub loop-book-preserved : goal.loop-book-preserved
-loop-book-preserved g c =
+pub returns : goal.returns
+returns g c =
     let k = g.S.Quote.Amount.kind in
-    let table = g.S.Source.table c.args.source.now in
-    let b = c.loop-book.book in
-    c.sum-sum.ensures
-    ∙ ap₂ k.plus c.loop-book.invariant (c.or_zero.ensures ∙ ap (or_none k) (c.quote.ensures.pinned ∙ ap (table b) c.weekend_of-weekend.ensures))
-    ∙ sum_more k b (λ b. or_none k (table b (at c.args.assignment.now b)))
+    let quotes : ℕ → g.row.S-Quote.Denot = λ b. or_none k (g.S.Source.table c.args.source.now b (at c.args.assignment.now b)) in
+    sum_of_map k _ _ _ quotes c.fold.ensures.ran c.map.ensures.source c.map.ensures.closure c.books.ensures c.zero.ensures (λ x y q k. search rules) (λ a x b q k. search rules)
