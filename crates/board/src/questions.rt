@@ -62,9 +62,7 @@ impl<S: Source> Board<S> {
         ensures answer { result ≡ the_toll_check S.Quote.Amount.kind (posed S.Source self.now) sheet.now }
         ensures sound { result ≡ Ok true → Possible S.Quote.Amount.kind (posed S.Source self.now) → ⊥ }
     {
-        let Some(entries) = sheet.get(..self.places()) else {
-            return Err(Refusal::Short);
-        };
+        let entries = sheet.get(..self.places()).ok_or(Refusal::Short)?;
         if !are_light(entries) {
             return Err(Refusal::Heavy);
         }
@@ -78,9 +76,7 @@ impl<S: Source> Board<S> {
         ensures answer { result ≡ the_head_check (posed S.Source self.now) sheet.now }
         ensures sound { result ≡ Ok true → Possible S.Quote.Amount.kind (posed S.Source self.now) → ⊥ }
     {
-        let Some(entries) = sheet.get(..self.places()) else {
-            return Err(Refusal::Short);
-        };
+        let entries = sheet.get(..self.places()).ok_or(Refusal::Short)?;
         if !are_heads(entries) {
             return Err(Refusal::Range);
         }

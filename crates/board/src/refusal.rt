@@ -1,6 +1,9 @@
 // Why a call to the board is refused.
 ghost use Rattle.std.specs.Prelude.{◌≡◌};
 ghost use Rattle.board.specs.Refusals.{number as number_of};
+ghost use Rattle.board.specs.Standing.{roster_refusal};
+
+use plans::RosterFault;
 
 // The refusals of this layer. What each number means, and which decides in a call, is set out in specs/Refusals and specs/Standing.
 #[derive(Clone, Copy, PartialEq, Eq, Debug)]
@@ -27,5 +30,16 @@ impl Refusal {
         ensures { result ≡ number_of self }
     {
         self as u8
+    }
+}
+
+impl From<RosterFault> for Refusal {
+    ghost from_gives = { λ fault refusal. refusal ≡ roster_refusal fault };
+
+    fn from(fault: RosterFault) -> Self {
+        match fault {
+            RosterFault::Short => Refusal::Short,
+            RosterFault::NoRoster => Refusal::Range,
+        }
     }
 }

@@ -2,24 +2,13 @@
 ghost use Rattle.std.specs.Prelude.{◌≡◌};
 ghost use Rattle.board.specs.Boards.{under, fresh, answer, after};
 ghost use Rattle.board.specs.Refusals.{answered};
-ghost use Rattle.board.specs.Standing.{roster_refusal, known_pair, strike as to_strike, reopen as to_reopen, pin as to_pin, roster as to_roster, bounds as to_bounds, limit as to_limit};
+ghost use Rattle.board.specs.Standing.{known_pair, strike as to_strike, reopen as to_reopen, pin as to_pin, roster as to_roster, bounds as to_bounds, limit as to_limit};
 
 use crate::desk::{Board, HEAVIEST};
 use crate::refusal::Refusal;
 use amounts::Amount;
-use plans::{Bounds, Roster, RosterFault};
+use plans::{Bounds, Roster};
 use sources::{Source, StrikeLayer};
-
-impl From<RosterFault> for Refusal {
-    ghost from_gives = { λ fault refusal. refusal ≡ roster_refusal fault };
-
-    fn from(fault: RosterFault) -> Self {
-        match fault {
-            RosterFault::Short => Refusal::Short,
-            RosterFault::NoRoster => Refusal::Range,
-        }
-    }
-}
 
 #[tactic(auto, using(std::proofs::lemmas::Bool::Decides::nat_tests), unfolding(crate::specs::Standing::opened, crate::specs::Standing::stepped, crate::specs::Standing::fault, crate::specs::Standing::changed))]
 impl<S: Source> Board<S> {
