@@ -31,6 +31,7 @@ impl<S: Source> Board<S> {
     }
 
     // Sends every call in turn. A refused one changes nothing, and neither does a question.
+    #[tactic(auto, using(crate::proofs::Plays::play_more, crate::proofs::Plays::play_end))]
     pub fn play(&mut self, calls: &[Call<S::Quote>])
         ensures { self.new ≡ after_all S.Source S.Quote.Amount.kind self.old (steps calls.now) }
     {

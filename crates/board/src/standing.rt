@@ -10,7 +10,7 @@ use amounts::Amount;
 use plans::{Bounds, Roster};
 use sources::{Source, StrikeLayer};
 
-#[tactic(auto, using(std::proofs::lemmas::Bool::Decides::nat_tests), unfolding(crate::specs::Standing::opened, crate::specs::Standing::stepped, crate::specs::Standing::fault, crate::specs::Standing::changed))]
+#[tactic(auto, using(std::proofs::lemmas::Bool::Decides::nat_tests), unfolding(crate::specs::Standing::opened, crate::specs::Standing::stepped, crate::specs::Standing::fault, crate::specs::Standing::changed, crate::specs::Standing::pinned))]
 impl<S: Source> Board<S> {
     // No strikes, one class with every book in it, all bounds from 0 to the number of books, limit zero.
     pub fn open(source: S) -> Self

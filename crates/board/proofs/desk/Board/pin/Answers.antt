@@ -1,13 +1,8 @@
 use Rattle.std.proofs.Common.{refl, arith}
 use Rattle.std.proofs.lemmas.Bool.Decides.{nat_tests}
-use Rattle.board.specs.Standing.{pinned}
 use Rattle.board.proofs.Pins.{pin_turn}
 use Rattle.board.proofs.desk.Board.pin.Goals as goal
 use Rattle.board.proofs.desk.Board.pin.Goals.{then-other-weekend+then-is_some, else-other-weekend, else-other-weekend-via-then-other-weekend+else-is_some, else-other-weekend-via-else-other-weekend}
-
-pub loop-other-init : goal.loop-other-init
-unfolding pinned
-loop-other-init g c = c.self.view_is
 
 pub loop-other-preserved : goal.loop-other-preserved
 loop-other-preserved g c =
