@@ -44,12 +44,12 @@ module _ {V : Type 0} (M : Meaning V) (st : Standing V) (b w : ℕ) where
   pin_more i = rw add-one (ap (λ q. cond (is_some q && not (eqb i w)) (with_pair (pinned M st b w i) b i) (pinned M st b w i)) (quote_ahead i))
 
 -- one turn of the loop
-pub pin_turn : {S V : Type 0} (source : Ghosts S V) (p : Desk S V) (layer new : StrikeLayer S) (roster : Roster) (bounds : Bounds) (limit : V) (b w i : ℕ)
+pub pin_turn : {S V : Type 0} (source : Ghosts S V) (p : Desk S V) (layer : StrikeLayer S) (roster : Roster) (bounds : Bounds) (limit : V) (b w i : ℕ)
     → desk layer roster bounds limit ≡ record { below = p.below; standing = with_struck p.standing (pinned (under source p) p.standing b w i) }
-    → new.below ≡ layer.below
+    → (new : StrikeLayer S) → new.below ≡ layer.below
     → new.struck.words ≡ cond (is_some (struck_out (source.table layer.below) layer.struck.words b i) && not (eqb i w)) (with_pair layer.struck.words b i) layer.struck.words
     → desk new roster bounds limit ≡ record { below = p.below; standing = with_struck p.standing (pinned (under source p) p.standing b w (i + 1)) }
-pin_turn source p layer new roster bounds limit b w i inv same step =
+pin_turn source p layer roster bounds limit b w i inv new same step =
     let below : new.below ≡ p.below = same ∙ ap (λ d. d.below) inv in
     let words : new.struck.words ≡ pinned (under source p) p.standing b w (i + 1) =
     step ∙ (ap (λ d. pinned_at (under source d) d.standing b w i d.standing.struck) inv ∙ pin_more (under source p) p.standing b w i) in

@@ -46,6 +46,7 @@ impl<S: Source> Board<S> {
     }
 
     // Asks for every pair once. What the answers promise of the quotes is then known of all.
+    #[tactic(auto, using(crate::proofs::Checks::board_sound))]
     fn look_at_quotes(&self)
         ensures { Sound S.Quote.Amount.kind (posed S.Source self.now) }
     {

@@ -7,10 +7,8 @@ use Rattle.board.proofs.desk.Board.pin.Goals.{then-other-weekend+then-is_some, e
 pub loop-other-preserved : goal.loop-other-preserved
 loop-other-preserved g c =
     let p = c.loop-other.self-inside in
+    let turn = pin_turn g.S.Source c.args.self.now p.layer p.roster p.bounds p.limit c.args.book c.args.weekend c.loop-other.other c.loop-other.invariant in
     elim c.if-other-weekend.branch [
-      | then-other-weekend+then-is_some w ↦ rw w.self-inside-is (pin_turn g.S.Source c.args.self.now p.layer w.strike.new.self p.roster p.bounds p.limit _ _ _ c.loop-other.invariant w.strike.ensures.same (grind (arith, nat_tests)))
-      | else-other-weekend w ↦ rw w.self-inside-is (elim w.else-other-weekend.branch [
-        | else-other-weekend-via-then-other-weekend+else-is_some w' ↦ pin_turn g.S.Source c.args.self.now p.layer p.layer p.roster p.bounds p.limit _ _ _ c.loop-other.invariant refl (grind (arith, nat_tests))
-        | else-other-weekend-via-else-other-weekend w' ↦ pin_turn g.S.Source c.args.self.now p.layer p.layer p.roster p.bounds p.limit _ _ _ c.loop-other.invariant refl (grind (arith, nat_tests))
-      ])
+      | then-other-weekend+then-is_some w ↦ rw w.self-inside-is (turn w.strike.new.self w.strike.ensures.same (grind (arith, nat_tests)))
+      | else-other-weekend w ↦ rw w.self-inside-is (turn p.layer refl (grind (arith, nat_tests)))
     ]
