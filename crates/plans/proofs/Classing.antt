@@ -1,11 +1,10 @@
 -- Which lists a roster is read from, and what it holds. Assumes nothing.
-use Rattle.std.proofs.Common.{◌≡◌, ℕ, zero, suc, ◌+◌, ◌-◌, ◌<◌, ◌≤◌, min, max, Bool, true, false, cond, ◌&&◌, ltb, leb, List, length, get_or, take, replicate, Ok, Err, Result, sym, refl, ap, ◌∙◌, subst, arith}
-use Rattle.std.proofs.lemmas.List.{get_or_append_left, get_or-take, length-take-le}
-use Rattle.std.proofs.lemmas.Bool.{and_parts, and_from, ltb-true, ltb-false, lt-ltb, le-ltb, leb-true, le-leb}
+use Rattle.std.proofs.Common.{◌≡◌, ℕ, zero, suc, ◌+◌, ◌<◌, ◌≤◌, min, max, Bool, true, false, cond, ◌&&◌, ltb, leb, List, length, get_or, take, Ok, Err, Result, sym, refl, ap, ◌∙◌, subst, arith}
+use Rattle.std.proofs.lemmas.List.{get_or-take, length-take-le}
+use Rattle.std.proofs.lemmas.Bool.{and_parts, and_from, ltb-true, ltb-false, lt-ltb, le-ltb, le-leb}
 use Rattle.plans.specs.declared.class_lists.RosterFault.{RosterFault}
 use Rattle.plans.specs.declared.class_lists.RosterFault.TheVariants.{Short, NoRoster}
-use Rattle.plans.specs.Places.{at}
-use Rattle.plans.proofs.Padding.{passes_at, passes_from}
+use Rattle.plans.proofs.Padding.{fitting, homes_low, padded_reads, passes_from}
 use Rattle.plans.specs.Rosters.{Shape, passes, parent_fits, class_fits, padded, parents_fit, MakesRoster, Holds, RosterRead}
 
 module _ (books : ℕ) (parents classes : List ℕ) where
@@ -20,32 +19,19 @@ module _ (books : ℕ) (parents classes : List ℕ) where
 
   makes_of : n ≤ length classes → fits ≡ true → MakesRoster n parents classes
   makes_of enough e =
-      let p₁ = and_parts (parents_fit parents) (passes (class_fits (length parents)) 0 (take n classes)) e in
-      let p₂ = and_parts (leb 1 (length parents) && leb (length parents) 8) (passes parent_fits 0 parents) p₁.0 in
-      let p₃ = and_parts (leb 1 (length parents)) (leb (length parents) 8) p₂.0 in
-      let some = leb-true 1 (length parents) p₃.0 in
-      let size = length-take-le n classes enough in
-      let up : (c : ℕ) → c < length parents → at parents c < max 1 c = λ c l.
-      let z : c ≡ 0 + c = omega arith in
-      ltb-true (get_or parents c 0) (max 1 c) (ap (λ k. ltb (get_or parents c 0) (max 1 k)) z ∙ passes_at parent_fits 0 parents p₂.1 c l) in
+      let parts = and_parts (parents_fit parents) (passes (class_fits (length parents)) 0 (take n classes)) e in
+      let f = fitting parents parts.0 in
       record {
         enough = enough;
-        some = some;
-        few = leb-true (length parents) 8 p₃.1;
-        root = let h = up 0 some in omega arith;
-        above = λ c h l. let u = up c l in omega arith;
-        classed = λ b l. subst (λ x. x < length parents) (get_or-take n classes b 0 l)
-            (ltb-true (get_or (take n classes) b 0) (length parents) (passes_at (class_fits (length parents)) 0 (take n classes) p₁.1 b (omega (arith, size))));
+        some = f.some;
+        few = f.few;
+        root = omega (arith, f.low 0);
+        above = λ c h l. omega (arith, f.low c);
+        classed = λ b l. subst (λ x. x < length parents) (get_or-take n classes b 0 l) (homes_low (length parents) (take n classes) f.some parts.1 b);
       }
 
-  holds_of : n ≤ length classes → Holds n parents classes made_of
-  holds_of enough =
-      let size = length-take-le n classes enough in
-      record {
-        count = refl;
-        parent = λ c l. get_or_append_left parents (replicate (8 - length parents) 0) 0 c l;
-        class = λ b l. get_or_append_left (take n classes) (replicate (120 - length (take n classes)) 0) 0 b (omega (arith, size)) ∙ get_or-take n classes b 0 l;
-      }
+  holds_of : Holds n parents classes made_of
+  holds_of = record { count = refl; parent = λ c l. padded_reads 8 parents c; class = λ b l. padded_reads 120 (take n classes) b ∙ get_or-take n classes b 0 l }
 
   fits_of : MakesRoster n parents classes → fits ≡ true
   fits_of m =
@@ -71,7 +57,7 @@ module _ (books : ℕ) (parents classes : List ℕ) where
   made false true e f s q =
       let enough = ltb-false (length classes) n e in
       let same : made_of ≡ s = cc in
-      (makes_of enough f, subst (Holds n parents classes) same (holds_of enough))
+      (makes_of enough f, subst (Holds n parents classes) same holds_of)
 
   short : (a b : Bool) → ltb (length classes) n ≡ a → answer a b ≡ Err Short → length classes < n
   short true b e q = ltb-true (length classes) n e

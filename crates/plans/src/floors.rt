@@ -1,5 +1,5 @@
 // The floor of a sheet, from its parts.
-ghost use Rattle.std.specs.Prelude.{◌≡◌, ◌<◌, ◌≤◌, option_map};
+ghost use Rattle.std.specs.Prelude.{◌≡◌, option_map};
 ghost use Rattle.amounts.specs.Least.{or_none};
 ghost use Rattle.amounts.specs.Sums.{sum_below, table_sum};
 ghost use Rattle.plans.specs.Posed.{put, roster_toll, bounds_ceiling};
@@ -20,7 +20,6 @@ fn ceiling<X: Amount>(own: X, lower: usize, upper: usize) -> X
 impl<'a, S: Source> Setting<'a, S> {
     // What a book costs at a weekend, quote plus toll, if it is open there.
     fn cost(&self, sheet: &[S::Quote], book: usize, weekend: usize) -> Option<S::Quote>
-        requires { weekend < 16 }
         ensures { result ≡ option_map (λ q. S.Quote.Amount.kind.plus q (roster_toll S.Quote.Amount.kind self.now.roster.now sheet.now book weekend)) (S.Source.table self.now.source.now book weekend) }
     {
         let quote = self.source.quote(book, weekend)?;
@@ -47,13 +46,12 @@ impl<'a, S: Source> Setting<'a, S> {
 
     // The most that can be paid for the entries of one weekend.
     fn ceilings_of(&self, sheet: &[S::Quote], weekend: usize) -> S::Quote
-        requires { weekend < 16 }
         ensures { result ≡ sum_below S.Quote.Amount.kind self.now.roster.now.classes (bounds_ceiling S.Quote.Amount.kind self.now.roster.now.classes self.now.bounds.now sheet.now weekend) }
     {
         let classes = self.roster.classes();
         (0..classes)
             .map(|class| {
-                let own = entry(sheet, weekend * classes + class);
+                let own = entry(sheet, classes, weekend, class);
                 let lower = self.bounds.lower(weekend, class);
                 let upper = self.bounds.upper(weekend, class);
                 ceiling(own, lower, upper)
