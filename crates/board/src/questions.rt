@@ -45,11 +45,12 @@ impl<S: Source> Board<S> {
         self.layer.weekends() * self.roster.classes()
     }
 
-    // Asks for every pair once. What the answers promise of the quotes is then known of all.
+    // Asks for every pair once: what the answers promise of their quotes is then known of the table.
     #[tactic(auto, using(crate::proofs::Checks::board_sound))]
     fn look_at_quotes(&self)
         ensures { Sound S.Quote.Amount.kind (posed S.Source self.now) }
     {
+        // Stays two loops: that a quote is light stands in no law of a source, only in what asking for it promises.
         for book in 0..self.layer.books() {
             for weekend in 0..self.layer.weekends() {
                 let _ = self.layer.quote(book, weekend);

@@ -10,6 +10,7 @@ use amounts::Amount;
 use plans::{Bounds, Roster};
 use sources::{Source, StrikeLayer};
 
+// Stays: book and weekend, and a class with its two bounds, are parameters, as sources and bounds take them; a struct would be taken apart in every call.
 #[tactic(auto, using(std::proofs::lemmas::Bool::Decides::nat_tests), unfolding(crate::specs::Standing::opened, crate::specs::Standing::stepped, crate::specs::Standing::fault, crate::specs::Standing::changed, crate::specs::Standing::pinned))]
 impl<S: Source> Board<S> {
     // No strikes, one class with every book in it, all bounds from 0 to the number of books, limit zero.
@@ -40,9 +41,7 @@ impl<S: Source> Board<S> {
         ensures { result ≡ answer S.Source S.Quote.Amount.kind self.now (to_strike book weekend) }
     {
         self.must_have(book, weekend)?;
-        if self.layer.quote(book, weekend).is_none() {
-            return Err(Refusal::Shut);
-        }
+        self.layer.quote(book, weekend).ok_or(Refusal::Shut)?;
         Ok(())
     }
 
