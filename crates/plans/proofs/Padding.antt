@@ -1,25 +1,11 @@
 -- Lists that are filled, padded and written, read place by place; and lists that pass a test of place and number. Assumes nothing.
-use Rattle.std.proofs.Common.{◌≡◌, ℕ, zero, suc, ◌+◌, ◌-◌, ◌<◌, ◌≤◌, max, Bool, true, false, ltb, leb, ◌&&◌, List, [], ◌∷◌, ◌++◌, length, get_or, set, replicate, sym, refl, ap, ◌∙◌, subst, ⊎_elim, arith}
+use Rattle.std.proofs.Common.{◌≡◌, ℕ, zero, suc, ◌+◌, ◌-◌, ◌<◌, ◌≤◌, max, Bool, true, false, ltb, leb, ◌&&◌, List, [], ◌∷◌, ◌++◌, length, get_or, replicate, sym, refl, ap, ◌∙◌, subst, ⊎_elim, arith}
 use Rattle.std.specs.Bool.{MatchBool}
 use Rattle.std.specs.List.{enumerate_from, AllWithin, HoldsAt}
 use Rattle.std.proofs.lemmas.Bool.{and_parts, and_from, and_left, and_right, ltb-true, leb-true, cases_lt}
 use Rattle.std.proofs.lemmas.List.{get_or_past, length-append, length-replicate}
 use Rattle.std.proofs.lemmas.List.FromFn.{length-enumerate_from, get_or-enumerate_from}
 use Rattle.plans.specs.Rosters.{passes, parent_fits, class_fits, parents_fit, padded}
-
--- what holds of a value and of a list's place holds of that place once the value is written somewhere
-pub set_holds : {X : Type 0} (P : X → Type 0) (d : X) (l : List X) (i j : ℕ) (v : X) → P v → P (get_or l j d) → P (get_or (set l i v) j d)
-set_holds P d [] i j v new old = old
-set_holds P d (x ∷ l) zero zero v new old = new
-set_holds P d (x ∷ l) zero (suc j) v new old = old
-set_holds P d (x ∷ l) (suc i) zero v new old = old
-set_holds P d (x ∷ l) (suc i) (suc j) v new old = set_holds P d l i j v new old
-
--- what holds of a value and of the default holds of each place of a list of that value
-pub filled_holds : {X : Type 0} (P : X → Type 0) (d : X) (n j : ℕ) (v : X) → P v → P d → P (get_or (replicate n v) j d)
-filled_holds P d zero j v new past = past
-filled_holds P d (suc n) zero v new past = new
-filled_holds P d (suc n) (suc j) v new past = filled_holds P d n j v new past
 
 -- a list of one value, read at that value
 pub get_or_filled : {X : Type 0} (n k : ℕ) (x : X) → get_or (replicate n x) k x ≡ x

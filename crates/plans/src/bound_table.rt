@@ -1,5 +1,6 @@
 // Bounds: for each weekend and class, how many of the class's members at least and at most go there.
-ghost use Rattle.std.specs.Prelude.{◌≡◌, ℕ, ◌<◌, ◌≤◌, min, replicate, slice_index_or};
+ghost use Rattle.std.specs.Prelude.{◌≡◌, min, replicate};
+ghost use Rattle.std.specs.List.{All};
 ghost use Rattle.plans.specs.Bounding.{bound, StraightBound, bound_at, bounds_go, bound_set};
 
 // How many members at least, and how many at most.
@@ -13,7 +14,7 @@ pub(crate) struct Bound {
 #[derive(Clone, Copy)]
 pub struct Bounds {
     table: [Bound; 128],
-    ghost straight: { (i : ℕ) → StraightBound (slice_index_or table i (bound 0 0)) },
+    ghost straight: { All StraightBound table },
 }
 
 impl Bounds {
