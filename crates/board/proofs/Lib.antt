@@ -1,8 +1,4 @@
-pub mod Steps
-pub mod Opens
 pub mod Pins
-pub mod Faults
-pub mod Entries
 pub mod Checks
 pub mod Plays
 pub mod Stands

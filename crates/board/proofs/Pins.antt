@@ -1,12 +1,16 @@
 -- Pinning a book, one weekend after another.
-use Rattle.std.proofs.Common.{◌≡◌, ℕ, zero, suc, ◌+◌, ◌^◌, ◌<◌, ◌≤◌, Bool, true, false, cond, not, ◌&&◌, eqb, ltb, List, length, get_or, set, is_some, None, sym, refl, ap, ◌∙◌, ⊎_elim, add-one, arith}
+use Rattle.std.proofs.Common.{◌≡◌, ℕ, zero, suc, ◌+◌, ◌^◌, ◌<◌, ◌≤◌, Bool, true, false, cond, not, ◌&&◌, eqb, ltb, List, length, get_or, set, is_some, None, refl, ap, ◌∙◌, ap₂, ⊎_elim, add-one, arith}
 use lib.Bits.{bit_or}
 use Rattle.std.proofs.lemmas.List.{set_past}
-use Rattle.std.proofs.lemmas.Bool.{cases_lt, cond-false, ne_eqb, and_right, and_left, and_from, not_from_true, not_from_false, eq-eqb, cond-true}
+use Rattle.std.proofs.lemmas.Bool.{cases_lt, cond-false, ne_eqb, and_right}
 use Rattle.sources.proofs.Bits16.{put_exact}
 use Rattle.sources.specs.Strikes.{struck_at, struck_out, with_pair}
 use Rattle.sources.specs.declared.meaning.Source.{Ghosts}
-use Rattle.plans.specs.Posed.{Meaning, meaning}
+use Rattle.sources.specs.declared.strike_layer.StrikeLayer.{StrikeLayer}
+use Rattle.plans.specs.declared.bound_table.Bounds.{Bounds}
+use Rattle.plans.specs.declared.class_tree.Roster.{Roster}
+use Rattle.plans.specs.Posed.{Meaning}
+use Rattle.board.specs.Boards.{Desk, desk, under}
 use Rattle.board.specs.Standing.{Standing, with_struck, quote_of, pinned_at, pinned}
 
 -- a strike leaves the other pairs of its book
@@ -39,22 +43,15 @@ module _ {V : Type 0} (M : Meaning V) (st : Standing V) (b w : ℕ) where
   unfolding pinned
   pin_more i = rw add-one (ap (λ q. cond (is_some q && not (eqb i w)) (with_pair (pinned M st b w i) b i) (pinned M st b w i)) (quote_ahead i))
 
-  -- the three ways of one turn
-  pub stays : (x : ℕ) (words : List ℕ) → x ≡ w → words ≡ pinned_at M st b w x words
-  stays x words e = sym (cond-false _ _ _ (and_right _ _ (not_from_true _ (eq-eqb x w e))))
-
-  pub shut : (x : ℕ) (words : List ℕ) → is_some (quote_of M st b x) ≡ false → words ≡ pinned_at M st b w x words
-  shut x words e = sym (cond-false _ _ _ (and_left _ _ e))
-
-  pub goes : (x : ℕ) (words : List ℕ) → (x ≡ w → ⊥) → is_some (quote_of M st b x) ≡ true → with_pair words b x ≡ pinned_at M st b w x words
-  goes x words ne e = sym (cond-true _ _ _ (and_from _ _ e (not_from_false _ (ne_eqb x w ne))))
-
 -- one turn of the loop
-pub pin_turn : {S Q : Type 0} (source : Ghosts S Q) (s s' : S) (st now after : Standing Q) (b w i : ℕ) → s' ≡ s → now ≡ with_struck st (pinned (meaning source s) st b w i)
-    → after ≡ with_struck now (pinned_at (meaning source s') now b w i now.struck) → after ≡ with_struck st (pinned (meaning source s) st b w (i + 1))
-pin_turn source s s' st now after b w i same inv step =
-    step ∙ (ap (λ x. with_struck now (pinned_at (meaning source x) now b w i now.struck)) same
-    ∙ (ap (λ n. with_struck n (pinned_at (meaning source s) n b w i n.struck)) inv ∙ ap (with_struck st) (pin_more (meaning source s) st b w i)))
-
-pub pin_end : {V : Type 0} (M : Meaning V) (st : Standing V) (b w i n : ℕ) → i ≡ n → with_struck st (pinned M st b w i) ≡ with_struck st (pinned M st b w n)
-pin_end M st b w i n e = ap (λ k. with_struck st (pinned M st b w k)) e
+pub pin_turn : {S V : Type 0} (source : Ghosts S V) (p : Desk S V) (layer : StrikeLayer S) (roster : Roster) (bounds : Bounds) (limit : V) (b w i : ℕ)
+    → desk layer roster bounds limit ≡ record { below = p.below; standing = with_struck p.standing (pinned (under source p) p.standing b w i) }
+    → (new : StrikeLayer S) → new.below ≡ layer.below
+    → new.struck.words ≡ cond (is_some (struck_out (source.table layer.below) layer.struck.words b i) && not (eqb i w)) (with_pair layer.struck.words b i) layer.struck.words
+    → desk new roster bounds limit ≡ record { below = p.below; standing = with_struck p.standing (pinned (under source p) p.standing b w (i + 1)) }
+pin_turn source p layer roster bounds limit b w i inv new same step =
+    let below : new.below ≡ p.below = same ∙ ap (λ d. d.below) inv in
+    let words : new.struck.words ≡ pinned (under source p) p.standing b w (i + 1) =
+    step ∙ (ap (λ d. pinned_at (under source d) d.standing b w i d.standing.struck) inv ∙ pin_more (under source p) p.standing b w i) in
+    ap₂ (λ x ws. record { below = x; standing = with_struck (desk layer roster bounds limit).standing ws }) below words
+    ∙ ap (λ d. record { below = p.below; standing = with_struck d.standing (pinned (under source p) p.standing b w (i + 1)) }) inv

@@ -1,71 +1,42 @@
 -- Whatever calls are sent to an opened board, the problem that they make of it is sound, and the checks are right about it. Assumes nothing.
-use Rattle.std.proofs.Common.{◌≡◌, ℕ, zero, suc, ◌+◌, ◌-◌, ◌*◌, ◌<◌, ◌≤◌, min, max, Bool, true, false, cond, ◌&&◌, ltb, leb, List, [], ◌∷◌, length, get_or, take, set, replicate, IfSome, Some, None, Ok, Err, Option, Result, refl, ap, ◌∙◌, arith}
-use Rattle.std.proofs.lemmas.List.{get_or-replicate, get_or_append_left, length-take-le}
+use Rattle.std.proofs.Common.{◌≡◌, ℕ, ◌+◌, ◌*◌, ◌<◌, ◌≤◌, min, Bool, true, false, cond, ◌&&◌, ltb, leb, List, [], ◌∷◌, length, take, set, IfSome, Some, None, Option, refl, arith}
 use Rattle.std.specs.List.{All}
 use Rattle.std.proofs.lemmas.List.Elements.{All-set, All-replicate}
-use Rattle.std.proofs.lemmas.Bool.{and_parts, ltb-true, ltb-false, leb-true, cond_both, false≢true}
+use Rattle.std.proofs.lemmas.Bool.{and_parts, leb-true, cond_both}
 use Rattle.amounts.specs.Kind.{Kind, Lawful}
-use Rattle.amounts.specs.Sums.{item}
 use Rattle.sources.specs.Strikes.{struck_at, struck_out}
 use Rattle.plans.specs.Bounding.{bound, StraightBound, bounds_go}
 use Rattle.plans.specs.Places.{at}
 use Rattle.plans.specs.Posed.{Meaning}
-use Rattle.plans.specs.Problem.{Problem}
-use Rattle.plans.specs.Rosters.{Shape, passes, parent_fits, class_fits, parents_fit, padded, roster_of}
-use Rattle.plans.specs.Sheets.{toll_accepts, head_accepts}
+use Rattle.plans.specs.Rosters.{Shape, passes, class_fits, parents_fit, padded, roster_of}
 use Rattle.plans.specs.Theorems.{Sound}
-use Rattle.plans.proofs.Below.{each_holds}
+use Rattle.plans.proofs.Padding.{get_or_filled, padded_reads, fitting, homes_low}
 use Rattle.plans.proofs.Straight.{bound_holds}
-use Rattle.plans.proofs.Verdicts.{toll_check_sound, head_check_sound}
+use Rattle.board.proofs.Checks.{never_wrong}
 use Rattle.board.specs.declared.refusal.Refusal.{Refusal}
-use Rattle.board.specs.declared.refusal.Refusal.TheVariants.{Range, Heavy, Short}
-use Rattle.board.specs.Questions.{places, light_entries, head_entries, toll_check, head_check}
+use Rattle.board.specs.declared.refusal.Refusal.TheVariants.{Heavy}
 use Rattle.board.specs.Standing.{Standing, Step, strike, reopen, pin, roster, bounds, limit, question, free_bounds, with_roster, settled, fault, changed, stepped, played, opened, quote_of, put_by, made_by}
-use Rattle.board.specs.Theorems.{Fair, RunsSound, RunsUncrossed, NeverWrong, RunsNeverWrong}
+use Rattle.board.specs.Theorems.{Fair, RunsSound, RunsUncrossed, RunsNeverWrong}
 
 -- ---- rosters
--- the classes are 1 to 8, each parent but that of 0 has a smaller number, and each of n books is in one of the classes
-record Rostered (n : ℕ) (s : Shape) : Type 0 where
+-- the classes are 1 to 8, each parent but that of 0 has a smaller number, and each book is in one of the classes
+record Rostered (s : Shape) : Type 0 where
   pub some : 1 ≤ s.classes
   pub few : s.classes ≤ 8
   pub root : at s.parents 0 ≡ 0
   pub above : (c : ℕ) → 0 < c → c < s.classes → at s.parents c < c
-  pub homed : (b : ℕ) → b < n → at s.homes b < s.classes
-
--- a list that passes a test does so at each place
-passes_at : (t : ℕ → ℕ → Bool) (i : ℕ) (xs : List ℕ) → passes t i xs ≡ true → (j : ℕ) → j < length xs → t (i + j) (get_or xs j 0) ≡ true
-passes_at t i [] e j l = absurd (omega arith)
-passes_at t i (x ∷ xs) e zero l =
-    let z : i + 0 ≡ i = omega arith in
-    ap (λ k. t k x) z ∙ (and_parts (t i x) (passes t (i + 1) xs) e).0
-passes_at t i (x ∷ xs) e (suc j) l =
-    let z : i + suc j ≡ i + 1 + j = omega arith in
-    ap (λ k. t k (get_or xs j 0)) z ∙ passes_at t (i + 1) xs (and_parts (t i x) (passes t (i + 1) xs) e).1 j (omega arith)
-
-passes_each : (t : ℕ → ℕ → Bool) (xs : List ℕ) → passes t 0 xs ≡ true → (j : ℕ) → j < length xs → t j (get_or xs j 0) ≡ true
-passes_each t xs e j l =
-    let z : j ≡ 0 + j = omega arith in
-    ap (λ k. t k (get_or xs j 0)) z ∙ passes_at t 0 xs e j l
-
-parent_below : (ps : List ℕ) → passes parent_fits 0 ps ≡ true → (c : ℕ) → c < length ps → at (padded 8 ps) c < max 1 c
-parent_below ps e c l = rw (get_or_append_left ps (replicate (8 - length ps) 0) 0 c l) (ltb-true (get_or ps c 0) (max 1 c) (passes_each parent_fits ps e c l))
-
-home_below : (n : ℕ) (hs : List ℕ) → passes (class_fits n) 0 hs ≡ true → (b : ℕ) → b < length hs → at (padded 120 hs) b < n
-home_below n hs e b l = rw (get_or_append_left hs (replicate (120 - length hs) 0) 0 b l) (ltb-true (get_or hs b 0) n (passes_each (class_fits n) hs e b l))
+  pub homed : (b : ℕ) → at s.homes b < s.classes
 
 -- lists that pass the tests of a roster make one
-listed : (n : ℕ) (ps hs : List ℕ) → n ≤ length hs → parents_fit ps ≡ true → passes (class_fits (length ps)) 0 hs ≡ true →
-    Rostered n (record { classes = length ps; parents = padded 8 ps; homes = padded 120 hs })
-listed n ps hs long e e' =
-    let parts = and_parts (leb 1 (length ps) && leb (length ps) 8) (passes parent_fits 0 ps) e in
-    let sizes = and_parts (leb 1 (length ps)) (leb (length ps) 8) parts.0 in
-    let some = leb-true 1 (length ps) sizes.0 in
+listed : (ps hs : List ℕ) → parents_fit ps ≡ true → passes (class_fits (length ps)) 0 hs ≡ true → Rostered (record { classes = length ps; parents = padded 8 ps; homes = padded 120 hs })
+listed ps hs e e' =
+    let f = fitting ps e in
     record {
-      some = some;
-      few = leb-true (length ps) 8 sizes.1;
-      root = let h = parent_below ps parts.1 0 some in omega arith;
-      above = λ c h l. let u = parent_below ps parts.1 c l in omega arith;
-      homed = λ b l. home_below (length ps) hs e' b (omega arith);
+      some = f.some;
+      few = f.few;
+      root = omega (arith, f.low 0, padded_reads 8 ps 0);
+      above = λ c h l. omega (arith, f.low c, padded_reads 8 ps c);
+      homed = λ b. omega (arith, homes_low (length ps) hs f.some e' b, padded_reads 120 hs b);
     }
 
 -- ---- bounds
@@ -75,7 +46,7 @@ free_bounded books = All-replicate StraightBound 128 (bound 0 (min books 120)) (
 -- ---- runs
 module _ {V : Type 0} (K : Kind V) (M : Meaning V) where
   record Fit (st : Standing V) : Type 0 where
-    pub rostered : Rostered (min M.books 120) st.roster
+    pub rostered : Rostered st.roster
     pub bounded : All StraightBound st.bounds
     pub modest : K.weight st.limit ≤ 1000000000000
 
@@ -91,8 +62,7 @@ module _ {V : Type 0} (K : Kind V) (M : Meaning V) where
       (λ enough. cond_both (parents_fit ps && passes (class_fits (length ps)) 0 hs) _ _ (λ r. Fit (with_roster M st r))
       (λ e.
       let parts = and_parts (parents_fit ps) (passes (class_fits (length ps)) 0 hs) e in
-      let long = length-take-le n cs (ltb-false (length cs) n enough) in
-      record { rostered = listed n ps hs (omega (arith, long)) parts.0 parts.1; bounded = free_bounded M.books; modest = f.modest })
+      record { rostered = listed ps hs parts.0 parts.1; bounded = free_bounded M.books; modest = f.modest })
       (λ _. f))
 
   fit_limit : (st : Standing V) (amount : V) (t : Bool) → leb (K.weight amount) 1000000000000 ≡ t → Fit st → Fit (settled M (cond t None (Some Heavy)) st (changed M st (limit amount)))
@@ -133,7 +103,7 @@ module _ {V : Type 0} (K : Kind V) (M : Meaning V) where
       few = omega arith;
       root = refl;
       above = λ c h l. absurd (omega arith);
-      homed = λ b l. let l' : b < 120 = omega arith in rw (get_or-replicate {A = ℕ} 120 b 0 0 l') (omega arith);
+      homed = λ b. omega (arith, get_or_filled {X = ℕ} 120 b 0);
     };
     bounded = free_bounded M.books;
     modest = omega (arith, L.none_weight);
@@ -154,39 +124,14 @@ module _ {V : Type 0} (K : Kind V) (M : Meaning V) where
         classes = f.rostered.few;
         root = f.rostered.root;
         above = f.rostered.above;
-        classed = λ b l. f.rostered.homed b (let h = fair.few_books in omega arith);
+        classed = λ b l. f.rostered.homed b;
         lowers = λ w c lw lc. omega (arith, (small w c).0, (small w c).1);
         uppers = λ w c lw lc. (small w c).1;
         quotes = quotes_light fair st;
         limit = f.modest;
       }
 
--- ---- both checks
--- is the answer a yes?
-abbrev yes : Result Bool Refusal → Bool
-yes (Ok said) = said
-yes (Err r) = false
-
--- a check that says yes found the sheet long enough and its entries in order
-checked : (short fine said : Bool) (r r' : Refusal) → cond short (Err r) (cond fine (Ok said) (Err r')) ≡ Ok true → (fine ≡ true) × (said ≡ true)
-checked true fine said r r' e = absurd (false≢true (ap yes e))
-checked false true said r r' e = (refl, ap yes e)
-checked false false said r r' e = absurd (false≢true (ap yes e))
-
 module _ {V : Type 0} {K : Kind V} (L : Lawful K) where
-  never_wrong : (B : Problem V) → Sound K B → NeverWrong K B
-  unfolding toll_check head_check
-  never_wrong B s = record {
-    toll = λ possible sheet e.
-        let light = leb (K.weight B.limit) 1000000000000 in
-        let entries = light_entries K (places B) sheet in
-        let found = checked (ltb (length sheet) (places B)) (light && entries) (toll_accepts K B sheet) Short Heavy e in
-        let each = each_holds (places B) (λ i. leb (K.weight (item K sheet i)) 1000000000000) (and_parts light entries found.0).1 in
-        toll_check_sound L B s possible sheet (λ i l. leb-true (K.weight (item K sheet i)) 1000000000000 (each i l)) found.1;
-    head = λ p plan sheet e.
-        head_check_sound K B s p plan sheet (checked (ltb (length sheet) (places B)) (head_entries (places B) sheet) (head_accepts B sheet) Short Range e).1;
-  }
-
   fit_run : (M : Meaning V) (ss : List (Step V)) → Fit K M (played M K (opened M K) ss)
   fit_run M ss = fit_played K M ss (opened M K) (fit_opened K M L)
 
@@ -199,4 +144,4 @@ module _ {V : Type 0} {K : Kind V} (L : Lawful K) where
       (bound_holds StraightBound st.bounds (omega arith, omega arith) (fit_run M ss).bounded w c).0
 
   pub runs_never_wrong : RunsNeverWrong K
-  runs_never_wrong M fair ss = never_wrong (made_by M K ss) (runs_sound M fair ss)
+  runs_never_wrong M fair ss = never_wrong L (made_by M K ss) (runs_sound M fair ss)

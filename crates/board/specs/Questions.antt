@@ -1,5 +1,5 @@
 -- What both checks answer. Assumes nothing.
-use Rattle.std.specs.Prelude.{ℕ, ◌*◌, Bool, cond, ◌&&◌, leb, List, length, ℤ, pos, Ok, Err, Result, nat_le, nat_lt, slice_index_or, unsigned_abs}
+use Rattle.std.specs.Prelude.{ℕ, ◌*◌, Bool, cond, ◌&&◌, List, length, ℤ, pos, Ok, Err, Result, nat_le, nat_lt, slice_index_or, unsigned_abs}
 use Rattle.amounts.specs.Kind.{Kind}
 use Rattle.amounts.specs.Sums.{item}
 use Rattle.plans.specs.Problem.{Problem}
@@ -13,11 +13,11 @@ places B = B.weekends * B.classes
 
 -- the first n entries weigh at most 10^12 each
 abbrev pub light_entries : {V : Type 0} → Kind V → ℕ → List V → Bool
-light_entries K n sheet = each_below n (λ i. leb (K.weight (item K sheet i)) 1000000000000)
+light_entries K n sheet = each_below n (λ i. nat_le (K.weight (item K sheet i)) 1000000000000)
 
 -- the first n entries are -1, 0 or 1
 abbrev pub head_entries : ℕ → List ℤ → Bool
-head_entries n sheet = each_below n (λ i. leb (unsigned_abs (slice_index_or sheet i (pos 0))) 1)
+head_entries n sheet = each_below n (λ i. nat_le (unsigned_abs (slice_index_or sheet i (pos 0))) 1)
 
 -- too short a sheet decides first, then an amount that is too heavy: the limit, or an entry of a place that is read
 unfoldable pub toll_check : {V : Type 0} → Kind V → Problem V → List V → Result Bool Refusal

@@ -1,50 +1,35 @@
 // Questions that a planner puts to the board. None of them changes it.
-ghost use Rattle.std.specs.Prelude.{◌≡◌, ℕ, ◌*◌, ◌<◌, ◌≤◌, true, length, IfSome, Ok};
+ghost use Rattle.std.specs.Prelude.{◌≡◌, true, Ok, nat_le, unsigned_abs};
+ghost use Rattle.std.specs.List.{list_all};
 ghost use Rattle.plans.specs.Problem.{Possible};
-ghost use Rattle.board.specs.Boards.{posed};
-ghost use Rattle.board.specs.Questions.{light_entries, head_entries, toll_check as the_toll_check, head_check as the_head_check};
+ghost use Rattle.plans.specs.Theorems.{Sound};
+ghost use Rattle.board.specs.Boards.{desk, posed};
+ghost use Rattle.board.specs.Questions.{places as places_of, toll_check as the_toll_check, head_check as the_head_check};
 
-use crate::desk::Board;
+use crate::desk::{Board, HEAVIEST};
 use crate::refusal::Refusal;
 use amounts::Amount;
 use plans::Setting;
 use sources::{Source, StrikeLayer};
 
-// What a limit, or an entry of a toll sheet, may weigh at most.
-const HEAVIEST: u64 = 1_000_000_000_000;
-
-// Whether the first `count` entries of a toll sheet are light.
-fn are_light<X: Amount>(sheet: &[X], count: usize) -> bool
-    requires { count ≤ length sheet.now }
-    ensures { result ≡ light_entries X.Amount.kind count sheet.now }
+// Whether the entries of a toll sheet are light.
+fn are_light<X: Amount>(entries: &[X]) -> bool
+    ensures { result ≡ list_all (λ x. nat_le (X.Amount.kind.weight x) 1000000000000) entries.now }
 {
-    for place in 0..count {
-        if sheet[place].weight() > HEAVIEST {
-            return false;
-        }
-    }
-    true
+    entries.iter().all(|entry| entry.weight() <= HEAVIEST)
 }
 
-// Whether the first `count` entries of a head sheet are -1, 0 or 1.
-fn are_heads(sheet: &[i8], count: usize) -> bool
-    requires { count ≤ length sheet.now }
-    ensures { result ≡ head_entries count sheet.now }
+// Whether the entries of a head sheet are -1, 0 or 1.
+fn are_heads(entries: &[i8]) -> bool
+    ensures { result ≡ list_all (λ x. nat_le (unsigned_abs x) 1) entries.now }
 {
-    for place in 0..count {
-        if sheet[place].unsigned_abs() > 1 {
-            return false;
-        }
-    }
-    true
+    entries.iter().all(|entry| entry.unsigned_abs() <= 1)
 }
 
 impl<S: Source> Board<S> {
-    // What plans are sought over on this board.
+    // What plans are sought over on this board: all of it but the limit.
     fn setting(&self) -> Setting<'_, StrikeLayer<S>>
-        ensures source { result.source.now ≡ self.now.layer }
-        ensures roster { result.roster.now ≡ self.now.roster }
-        ensures bounds { result.bounds.now ≡ self.now.bounds }
+        ensures { desk result.source.now result.roster.now result.bounds.now self.now.standing.limit ≡ self.now }
     {
         Setting {
             source: &self.layer,
@@ -55,44 +40,32 @@ impl<S: Source> Board<S> {
 
     // How many places a sheet needs: one for each weekend and class.
     fn places(&self) -> usize
-        ensures { result ≡ S.Source.weeks self.now.layer.below * self.now.roster.classes }
+        ensures { result ≡ places_of (posed S.Source self.now) }
     {
         self.layer.weekends() * self.roster.classes()
     }
 
-    // Asks for every pair of a book once: what the answers promise is then known of the table.
-    fn look_at_book(&self, book: usize)
-        ensures { (w : ℕ) → w < S.Source.weeks self.now.layer.below → IfSome ((posed S.Source self.now).quote book w) (λ x. S.Quote.Amount.kind.weight x ≤ 1000000000) }
-    {
-        let weekends = self.layer.weekends();
-        for weekend in 0..weekends {
-            let _ = self.layer.quote(book, weekend);
-        }
-    }
-
-    // Asks for every pair once.
+    // Asks for every pair once: what the answers promise of their quotes is then known of the table.
+    #[tactic(auto, using(crate::proofs::Checks::board_sound))]
     fn look_at_quotes(&self)
-        ensures { (b w : ℕ) → b < S.Source.count self.now.layer.below → w < S.Source.weeks self.now.layer.below → IfSome ((posed S.Source self.now).quote b w) (λ x. S.Quote.Amount.kind.weight x ≤ 1000000000) }
+        ensures { Sound S.Quote.Amount.kind (posed S.Source self.now) }
     {
-        let books = self.layer.books();
-        for book in 0..books {
-            self.look_at_book(book);
+        // Stays two loops: that a quote is light stands in no law of a source, only in what asking for it promises.
+        for book in 0..self.layer.books() {
+            for weekend in 0..self.layer.weekends() {
+                let _ = self.layer.quote(book, weekend);
+            }
         }
     }
 
     // Whether a toll sheet shows that there is no plan within the limit: a book has no open weekend, or the floor exceeds the limit.
+    #[tactic(auto, using(std::proofs::lemmas::Bool::Decides::nat_tests, crate::proofs::Checks::all_light), unfolding(crate::specs::Questions::toll_check))]
     pub fn toll_check(&self, sheet: &[S::Quote]) -> Result<bool, Refusal>
         ensures answer { result ≡ the_toll_check S.Quote.Amount.kind (posed S.Source self.now) sheet.now }
         ensures sound { result ≡ Ok true → Possible S.Quote.Amount.kind (posed S.Source self.now) → ⊥ }
     {
-        let places = self.places();
-        if sheet.len() < places {
-            return Err(Refusal::Short);
-        }
-        if self.limit.weight() > HEAVIEST {
-            return Err(Refusal::Heavy);
-        }
-        if !are_light(sheet, places) {
+        let entries = sheet.get(..self.places()).ok_or(Refusal::Short)?;
+        if !are_light(entries) {
             return Err(Refusal::Heavy);
         }
         self.look_at_quotes();
@@ -100,15 +73,13 @@ impl<S: Source> Board<S> {
     }
 
     // The same of a head sheet, with entries -1, 0 or 1, every quote counted 0, and limit 0: it shows that there is no plan at all.
+    #[tactic(auto, using(std::proofs::lemmas::Bool::Decides::nat_tests, crate::proofs::Checks::all_heads), unfolding(crate::specs::Questions::head_check))]
     pub fn head_check(&self, sheet: &[i8]) -> Result<bool, Refusal>
         ensures answer { result ≡ the_head_check (posed S.Source self.now) sheet.now }
         ensures sound { result ≡ Ok true → Possible S.Quote.Amount.kind (posed S.Source self.now) → ⊥ }
     {
-        let places = self.places();
-        if sheet.len() < places {
-            return Err(Refusal::Short);
-        }
-        if !are_heads(sheet, places) {
+        let entries = sheet.get(..self.places()).ok_or(Refusal::Short)?;
+        if !are_heads(entries) {
             return Err(Refusal::Range);
         }
         self.look_at_quotes();

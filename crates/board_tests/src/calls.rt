@@ -8,33 +8,32 @@ fn a_pin_strikes_the_others_and_reopening_lifts_one(rt: HostRuntime) {
     let quotes = [coins(1), coins(2), coins(3), coins(4)];
     let words = [0b1011];
     let mut board = Board::open(QuoteTable::new(1, 4, &quotes, &words));
-    assert_eq!(rt; told(board.pin(0, 1)), 0);
-    assert_eq!(rt; told(board.strike(0, 0)), 9);
-    assert_eq!(rt; told(board.strike(0, 3)), 9);
-    assert_eq!(rt; told(board.reopen(0, 2)), 10);
-    assert_eq!(rt; told(board.reopen(0, 3)), 0);
-    assert_eq!(rt; told(board.strike(0, 0)), 9);
-    assert_eq!(rt; told(board.strike(0, 3)), 0);
-    assert_eq!(rt; told(board.strike(0, 1)), 0);
+    assert_eq!(rt; told(board.pin(0, 1)), Ok(()));
+    assert_eq!(rt; told(board.strike(0, 0)), Err(9));
+    assert_eq!(rt; told(board.strike(0, 3)), Err(9));
+    assert_eq!(rt; told(board.reopen(0, 2)), Err(10));
+    assert_eq!(rt; told(board.reopen(0, 3)), Ok(()));
+    assert_eq!(rt; told(board.strike(0, 0)), Err(9));
+    assert_eq!(rt; told(board.strike(0, 3)), Ok(()));
+    assert_eq!(rt; told(board.strike(0, 1)), Ok(()));
 }
 
 #[test]
 fn a_new_roster_sets_the_bounds_back(rt: HostRuntime) {
-    let mut board = Board::open(QuoteTable::new(3, 2, &QUOTES, &WORDS));
-    set_up(&rt, &mut board, 8);
-    assert_eq!(rt; told(board.bounds(0, 0, 3, 3)), 0);
-    assert_eq!(rt; said(board.head_check(&[-1, 0, 0, -1])), 1);
-    assert_eq!(rt; told(board.roster(&[0, 0], &[0, 0, 1])), 0);
-    assert_eq!(rt; said(board.head_check(&[-1, 0, 0, -1])), 0);
-    assert_eq!(rt; told(board.bounds(0, 0, 3, 3)), 0);
-    assert_eq!(rt; told(board.roster(&[1], &[0, 0, 0])), 3);
-    assert_eq!(rt; told(board.bounds(1, 1, 1, 1)), 0);
-    assert_eq!(rt; said(board.head_check(&[-1, 0, 0, -1])), 1);
+    let mut board = board_z(&rt, 8);
+    assert_eq!(rt; told(board.bounds(0, 0, 3, 3)), Ok(()));
+    assert_eq!(rt; told(board.head_check(&[-1, 0, 0, -1])), Ok(true));
+    assert_eq!(rt; told(board.roster(&[0, 0], &[0, 0, 1])), Ok(()));
+    assert_eq!(rt; told(board.head_check(&[-1, 0, 0, -1])), Ok(false));
+    assert_eq!(rt; told(board.bounds(0, 0, 3, 3)), Ok(()));
+    assert_eq!(rt; told(board.roster(&[1], &[0, 0, 0])), Err(3));
+    assert_eq!(rt; told(board.bounds(1, 1, 1, 1)), Ok(()));
+    assert_eq!(rt; told(board.head_check(&[-1, 0, 0, -1])), Ok(true));
 }
 
 #[test]
 fn a_list_of_calls_is_played(rt: HostRuntime) {
-    let mut board = Board::open(QuoteTable::new(3, 2, &QUOTES, &WORDS));
+    let mut board = opened();
     let sheet = [coins(0)];
     let calls = [
         Call::Roster {
@@ -74,9 +73,9 @@ fn a_list_of_calls_is_played(rt: HostRuntime) {
         },
     ];
     board.play(&calls);
-    assert_eq!(rt; said(board.head_check(&[-1, 0, 0, -1])), 1);
-    assert_eq!(rt; told(board.strike(0, 0)), 0);
-    assert_eq!(rt; told(board.strike(2, 0)), 9);
+    assert_eq!(rt; told(board.head_check(&[-1, 0, 0, -1])), Ok(true));
+    assert_eq!(rt; told(board.strike(0, 0)), Ok(()));
+    assert_eq!(rt; told(board.strike(2, 0)), Err(9));
 }
 
 #[test]
@@ -100,18 +99,18 @@ fn a_board_over_a_pile_of_ranked_quotes(rt: HostRuntime) {
             first: coins(1),
             second: coins(5),
         })),
-        0
+        Ok(())
     );
     let zero: Ranked<Money, Money> = Ranked::zero();
-    assert_eq!(rt; said(board.toll_check(&[zero, zero])), 1);
+    assert_eq!(rt; told(board.toll_check(&[zero, zero])), Ok(true));
     assert_eq!(rt;
         told(board.limit(Ranked {
             first: coins(1),
             second: coins(6),
         })),
-        0
+        Ok(())
     );
-    assert_eq!(rt; said(board.toll_check(&[zero, zero])), 0);
-    assert_eq!(rt; told(board.strike(0, 1)), 0);
-    assert_eq!(rt; said(board.toll_check(&[zero, zero])), 1);
+    assert_eq!(rt; told(board.toll_check(&[zero, zero])), Ok(false));
+    assert_eq!(rt; told(board.strike(0, 1)), Ok(()));
+    assert_eq!(rt; told(board.toll_check(&[zero, zero])), Ok(true));
 }

@@ -19,29 +19,24 @@ pub const QUOTES: [Money; 6] = [
 
 pub const WORDS: [u16; 3] = [3, 3, 3];
 
-// The number of a refusal, or 0 where the call was taken.
-pub fn told(answer: Result<(), Refusal>) -> u8 {
-    match answer {
-        Ok(()) => 0,
-        Err(refusal) => refusal.number(),
-    }
+// The answer of a call, with a refusal as its number.
+pub fn told<T>(answer: Result<T, Refusal>) -> Result<T, u8> {
+    answer.map_err(|refusal| refusal.number())
 }
 
-// What a check said: 1 for yes, 0 for no, and from 100 on a refusal.
-pub fn said(answer: Result<bool, Refusal>) -> u32 {
-    match answer {
-        Ok(true) => 1,
-        Ok(false) => 0,
-        Err(refusal) => 100 + u32::from(refusal.number()),
-    }
+// A board opened over Z's quotes.
+pub fn opened() -> Board<QuoteTable<'static, Money>> {
+    Board::open(QuoteTable::new(3, 2, &QUOTES, &WORDS))
 }
 
-// Sends Z's roster, bounds and a limit to a board over its quotes.
-pub fn set_up(rt: &impl Abort, board: &mut Board<QuoteTable<Money>>, limit: i64) {
-    assert_eq!(rt; told(board.roster(&[0, 0], &[0, 0, 1])), 0);
-    assert_eq!(rt; told(board.bounds(0, 0, 1, 2)), 0);
-    assert_eq!(rt; told(board.bounds(1, 0, 1, 2)), 0);
-    assert_eq!(rt; told(board.bounds(1, 1, 1, 1)), 0);
-    assert_eq!(rt; told(board.bounds(0, 1, 0, 3)), 0);
-    assert_eq!(rt; told(board.limit(coins(limit))), 0);
+// Board Z, with its roster, its bounds and a limit.
+pub fn board_z(rt: &impl Abort, limit: i64) -> Board<QuoteTable<'static, Money>> {
+    let mut board = opened();
+    assert_eq!(rt; told(board.roster(&[0, 0], &[0, 0, 1])), Ok(()));
+    assert_eq!(rt; told(board.bounds(0, 0, 1, 2)), Ok(()));
+    assert_eq!(rt; told(board.bounds(1, 0, 1, 2)), Ok(()));
+    assert_eq!(rt; told(board.bounds(1, 1, 1, 1)), Ok(()));
+    assert_eq!(rt; told(board.bounds(0, 1, 0, 3)), Ok(()));
+    assert_eq!(rt; told(board.limit(coins(limit))), Ok(()));
+    board
 }

@@ -1,17 +1,14 @@
-use Rattle.std.proofs.Common.{refl, ◌∙◌}
-use Rattle.board.specs.Boards.{standing, under}
-use Rattle.board.specs.Standing.{fault, changed, pin}
-use Rattle.board.proofs.Steps.{refused_answer, refused_keeps, taken_answer, taken_changes}
+use Rattle.std.proofs.Common.{refl, arith}
+use Rattle.std.proofs.lemmas.Bool.Decides.{nat_tests}
+use Rattle.board.proofs.Pins.{pin_turn}
 use Rattle.board.proofs.desk.Board.pin.Goals as goal
+use Rattle.board.proofs.desk.Board.pin.Goals.{then-other-weekend+then-is_some, else-other-weekend, else-other-weekend-via-then-other-weekend+else-is_some, else-other-weekend-via-else-other-weekend}
 
-pub returns-in-Some : goal.returns-in-Some
-unfolding fault
-returns-in-Some g c =
-    let M = under g.S.Source c.args.self.now in let K = g.S.Quote.Amount.kind in let st = standing c.args.self.now in
-    record { answer = refused_answer M K st (pin c.args.book c.args.weekend) c.in-Some.refusal c.in-Some.ensures; after = refused_keeps M K st (pin c.args.book c.args.weekend) c.in-Some.refusal c.in-Some.ensures; same = refl }
-
-pub returns : goal.returns
-unfolding changed fault
-returns g c =
-    let M = under g.S.Source c.args.self.now in let K = g.S.Quote.Amount.kind in let st = standing c.args.self.now in
-    record { answer = taken_answer M K st (pin c.args.book c.args.weekend) c.in_default.ensures; after = c.strike_others.ensures.after ∙ taken_changes M K st (pin c.args.book c.args.weekend) c.in_default.ensures; same = c.strike_others.ensures.same }
+pub loop-other-preserved : goal.loop-other-preserved
+loop-other-preserved g c =
+    let p = c.loop-other.self-inside in
+    let turn = pin_turn g.S.Source c.args.self.now p.layer p.roster p.bounds p.limit c.args.book c.args.weekend c.loop-other.other c.loop-other.invariant in
+    elim c.if-other-weekend.branch [
+      | then-other-weekend+then-is_some w ↦ rw w.self-inside-is (turn w.strike.new.self w.strike.ensures.same (grind (arith, nat_tests)))
+      | else-other-weekend w ↦ rw w.self-inside-is (turn p.layer refl (grind (arith, nat_tests)))
+    ]
