@@ -15,6 +15,7 @@ pub mod Begin
 pub mod Stages
 pub mod Above
 pub mod Banks
+pub mod Marked
 pub mod Offering
 pub mod Relaxed
 pub mod Outgoing
@@ -24,9 +25,7 @@ pub mod Sought
 pub mod Opening
 pub mod Entering
 pub mod Placing
-pub mod Adopted
 pub mod Augmented
-pub mod Blanked
 pub mod Retaken
 pub mod Widened
 pub mod Beginning

@@ -1,7 +1,9 @@
 -- Books are placed one by one: what is found for a book, and what one book more changes. Assumes nothing.
-use Rattle.std.proofs.Common.{◌≡◌, ℕ, ◌+◌, ◌^◌, ◌<◌, ◌≤◌, Bool, true, false, cond, not, ◌&&◌, eqb, ◌⊎◌, List, length, set, replicate, is_some, Some, None, Option, sym, refl, ap, ◌∙◌, subst, ⊎_elim, add-one, arith, length-set, below_more, MatchOption}
+use Rattle.std.proofs.Common.{◌≡◌, ℕ, ◌+◌, ◌^◌, ◌<◌, ◌≤◌, Bool, true, false, cond, not, ◌&&◌, eqb, List, length, set, replicate, is_some, Some, None, Option, sym, refl, ap, ◌∙◌, subst, ⊎_elim, add-one, arith, length-set, below_more}
 use Rattle.std.proofs.lemmas.List.{get_or-set_same, get_or-set_other}
 use Rattle.std.proofs.lemmas.Bool.{cases_eq, eq-eqb, eqb-true, or_from, both_ways, not_from_false}
+use Rattle.std.specs.Ordering.{is_lt}
+use Rattle.amounts.specs.Kind.{Kind}
 use Rattle.amounts.specs.Sums.{bit, tally}
 use Rattle.amounts.proofs.Numbers.{tally_more, tally_same, tally_le}
 use Rattle.sources.specs.Tables.{bit_at}
@@ -11,8 +13,9 @@ use Rattle.plans.specs.Places.{at}
 use Rattle.plans.specs.Posed.{Meaning, is_member, assignment_count}
 use Rattle.plans.specs.Sheets.{goes, stranded}
 use Rattle.plans.proofs.Below.{some_more, some_from}
-use Rattle.solver.specs.declared.start.Offer.{Offer}
+use Rattle.solver.specs.declared.choices.Choice.{Choice}
 use Rattle.solver.specs.declared.state.State.{State}
+use Rattle.solver.specs.Choosing.{cheaper}
 use Rattle.solver.specs.Residual.{node}
 use Rattle.solver.specs.Held.{word_at}
 use Rattle.solver.specs.Starting.{Found, Placed}
@@ -20,22 +23,19 @@ use Rattle.solver.proofs.Opening.{get_or_same}
 
 -- one more weekend of a book, shut or open, as its word says
 module _ {V X : Type 0} (quotes : ℕ → Option V) (word : ℕ) (bits : (w : ℕ) → bit_at word w ≡ is_some (quotes w)) (n : ℕ) where
-  pub found_shut : (found : Option (Offer X)) → Found quotes n found → false ≡ bit_at word n → Found quotes (n + 1) found
+  pub found_shut : (found : Option (Choice X)) → Found quotes n found → false ≡ bit_at word n → Found quotes (n + 1) found
   found_shut None before shut = some_more n (λ w. is_some (quotes w)) ∙ or_from (is_some (quotes n)) (goes n quotes) (sym (bits n) ∙ sym shut) before
   found_shut (Some o) before shut = (omega (arith, before.0), before.1)
 
-  pub found_open : (found : Option (Offer X)) → Found quotes n found → true ≡ bit_at word n → (more r : Offer X) → more.weekend ≡ n → MatchOption found (r ≡ more) (λ o. (r ≡ o) ⊎ (r ≡ more)) → Found quotes (n + 1) (Some r)
-  found_open found before opened more r at_n is = go found before is
-    where
-      new : r ≡ more → Found quotes (n + 1) (Some r)
-      new e = let w : r.weekend ≡ n = ap (λ o. o.weekend) e ∙ at_n in (omega arith, ap (λ x. is_some (quotes x)) w ∙ sym (bits n) ∙ sym opened)
+pub found_open : {V X : Type 0} (K : Kind X) (quotes : ℕ → Option V) (word : ℕ) (bits : (w : ℕ) → bit_at word w ≡ is_some (quotes w)) (n : ℕ) (found : Option (Choice X)) → Found quotes n found → true ≡ bit_at word n → (more r : Choice X) → more.place ≡ n → r ≡ cheaper K found more → Found quotes (n + 1) (Some r)
+found_open {X = X} K quotes word bits n found before opened more r at_n is = subst (λ r. Found quotes (n + 1) (Some r)) (sym is) (go found before)
+  where
+    new : Found quotes (n + 1) (Some more)
+    new = (omega arith, ap (λ x. is_some (quotes x)) at_n ∙ sym (bits n) ∙ sym opened)
 
-      old : (o : Offer X) → Found quotes n (Some o) → r ≡ o → Found quotes (n + 1) (Some r)
-      old o h e = let w : r.weekend ≡ o.weekend = ap (λ o. o.weekend) e in (omega (arith, h.0), ap (λ x. is_some (quotes x)) w ∙ h.1)
-
-      go : (found : Option (Offer X)) → Found quotes n found → MatchOption found (r ≡ more) (λ o. (r ≡ o) ⊎ (r ≡ more)) → Found quotes (n + 1) (Some r)
-      go None h e = new e
-      go (Some o) h e = ⊎_elim (old o h) new e
+    go : (found : Option (Choice X)) → Found quotes n found → Found quotes (n + 1) (Some (cheaper K found more))
+    go None h = new
+    go (Some o) h = elim (is_lt (K.cmp more.cost o.cost)) as (λ t. Found quotes (n + 1) (Some (cond t more o))) [ true ↦ new | false ↦ (omega (arith, h.0), h.1) ]
 
 pub none_open : {V : Type 0} (books weekends : ℕ) (quotes : ℕ → ℕ → Option V) (b : ℕ) → b < books → goes weekends (quotes b) ≡ false → stranded books weekends quotes ≡ true
 unfolding stranded

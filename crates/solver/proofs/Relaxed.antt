@@ -1,5 +1,5 @@
 -- The arcs out of a settled node, as the code takes them: one that is offered, some that are not there, and one after another. Assumes nothing.
-use Rattle.std.proofs.Common.{◌≡◌, ℕ, suc, ◌+◌, ◌<◌, ◌≤◌, Bool, true, false, List, get_or, Option, sym, refl, ap, ◌∙◌, subst, subst₂, inl, ⊎_elim, arith}
+use Rattle.std.proofs.Common.{◌≡◌, ℕ, suc, ◌+◌, ◌<◌, ◌≤◌, Bool, true, false, Option, sym, refl, ap, ◌∙◌, subst, subst₂, inl, ⊎_elim, arith}
 use mathlib.Core.Path.{fun_ext}
 use Rattle.std.specs.Ordering.{is_lt}
 use Rattle.std.proofs.lemmas.Bool.{cases_eq, cases_lt, cases_Bool, both_ways}
@@ -11,12 +11,11 @@ use Rattle.plans.specs.Places.{at}
 use Rattle.plans.specs.Problem.{Problem}
 use Rattle.solver.specs.declared.arcs.Arc.{Arc}
 use Rattle.solver.specs.declared.state.State.{State}
-use Rattle.solver.specs.declared.trail.Trail.{Trail}
 use Rattle.solver.specs.Soft.{soft_kind, softened}
 use Rattle.solver.specs.Residual.{Live, head, tail}
 use Rattle.solver.specs.Search.{nodes, stage, Last}
 use Rattle.solver.specs.Flows.{soft_charges, Taking, Next, SearchKept}
-use Rattle.solver.specs.Held.{label, Memory, memory, old_of, new_of, seen_of, rank_of, via_of, takes, Kept, SameAt, Offered, word_at, SearchableIn, TakingIn, offer_in, Relaxes}
+use Rattle.solver.specs.Held.{label, Memory, old_of, new_of, seen_of, rank_of, via_of, takes, Kept, SameAt, Offered, word_at, SearchableIn, TakingIn, offer_in, Relaxes}
 use Rattle.solver.proofs.Soft.{soft_lawful}
 use Rattle.solver.proofs.Begin.{search_steps}
 use Rattle.solver.proofs.Paths.{all_light, offer_light}
@@ -29,13 +28,13 @@ module _ {V : Type 0} {K : Kind V} (L : Lawful K) (B : Problem V) (state : State
   K' = soft_kind K
 
   -- the ranks are the same
-  taking_ranks : (origin : ℕ → Bool) (begin pot : ℕ → Ranked Money V) (m m' : Memory V) (t u s : ℕ) → m'.trail.ranks ≡ m.trail.ranks →
+  taking_ranks : (origin : ℕ → Bool) (begin pot : ℕ → Ranked Money V) (m m' : Memory V) (t u s : ℕ) → rank_of m' ≡ rank_of m →
       Taking (soft_kind K) (softened B) (soft_charges K B) (word_at state.words) origin begin (at state.sent) (at state.counts) pot t (new_of K m') (seen_of m') (rank_of m) (via_of m') u s → TakingIn K B state origin begin pot m' t u s
   taking_ranks origin begin pot m m' t u s r h =
-      subst (λ r. Taking (soft_kind K) (softened B) (soft_charges K B) (word_at state.words) origin begin (at state.sent) (at state.counts) pot t (new_of K m') (seen_of m') (λ v. get_or r v nodes) (via_of m') u s) (sym r) h
+      subst (λ r. Taking (soft_kind K) (softened B) (soft_charges K B) (word_at state.words) origin begin (at state.sent) (at state.counts) pot t (new_of K m') (seen_of m') r (via_of m') u s) (sym r) h
 
   -- what is known of the nodes is the same, so the search is where it was
-  taking_same : (origin : ℕ → Bool) (begin pot : ℕ → Ranked Money V) (m m' : Memory V) (t u s : ℕ) → new_of K m' ≡ new_of K m → seen_of m' ≡ seen_of m → via_of m' ≡ via_of m → m'.trail.ranks ≡ m.trail.ranks →
+  taking_same : (origin : ℕ → Bool) (begin pot : ℕ → Ranked Money V) (m m' : Memory V) (t u s : ℕ) → new_of K m' ≡ new_of K m → seen_of m' ≡ seen_of m → via_of m' ≡ via_of m → rank_of m' ≡ rank_of m →
       TakingIn K B state origin begin pot m t u s → TakingIn K B state origin begin pot m' t u s
   taking_same origin begin pot m m' t u s d e v r h =
       let T : (ℕ → Ranked Money V) → (ℕ → Bool) → (ℕ → ℕ) → (ℕ → Option Arc) → Type 0 =
@@ -45,7 +44,7 @@ module _ {V : Type 0} {K : Kind V} (L : Lawful K) (B : Problem V) (state : State
       taking_ranks origin begin pot m m' t u s r (subst (λ v. T (new_of K m') (seen_of m') (rank_of m) v) (sym v) h₂)
 
   kept_none : (m : Memory V) → Kept K m m
-  kept_none m = record { long = refl; places = refl; old = refl; ranks = refl }
+  kept_none m = record { old = refl; ranks = refl }
 
   -- there are no such arcs
   pub relaxes_none : (m : Memory V) (u s s' : ℕ) → ((origin : ℕ → Bool) (begin : ℕ → Ranked Money V) → SearchableIn K B state origin begin (old_of K m) → (a : Arc) → Live (softened B) (word_at state.words) a → tail (softened B) (at state.sent) a ≡ u → s ≤ stage a → stage a < s' → ⊥) →
@@ -59,7 +58,7 @@ module _ {V : Type 0} {K : Kind V} (L : Lawful K) (B : Problem V) (state : State
   -- first some and then some more
   pub relaxes_more : (m m₁ m₂ : Memory V) (u s s₁ s₂ : ℕ) → Relaxes K B state m m₁ u s s₁ → Relaxes K B state m₁ m₂ u s₁ s₂ → Relaxes K B state m m₂ u s s₂
   relaxes_more m m₁ m₂ u s s₁ s₂ x y = record {
-    kept = record { long = y.kept.long ∙ x.kept.long; places = y.kept.places ∙ x.kept.places; old = y.kept.old ∙ x.kept.old; ranks = y.kept.ranks ∙ x.kept.ranks };
+    kept = record { old = y.kept.old ∙ x.kept.old; ranks = y.kept.ranks ∙ x.kept.ranks };
     taking = λ origin begin t g h.
         subst (λ pot. SearchableIn K B state origin begin pot → TakingIn K B state origin begin pot m₁ t u s₁ → TakingIn K B state origin begin pot m₂ t u s₂) x.kept.old (y.taking origin begin t) g (x.taking origin begin t g h);
   }
@@ -130,13 +129,13 @@ module _ {V : Type 0} {K : Kind V} (L : Lawful K) (B : Problem V) (state : State
     relaxes_offer = record { kept = o.kept; taking = taking }
 
   -- an arc as the code takes it: the labels are read first, which leaves them as they are
-  pub relaxes_arc : (heads heads₁ : List Money) (sheet sheet₁ : List V) (trail : Trail) (m' : Memory V) (a : Arc) (v u s : ℕ) (x : Ranked Money V) → heads₁ ≡ heads → sheet₁ ≡ sheet → v ≡ head (softened B) a → x ≡ offer_in K B state (memory heads sheet trail) a →
-      Offered K (memory heads₁ sheet₁ trail) m' v x a → Live (softened B) (word_at state.words) a → tail (softened B) (at state.sent) a ≡ u → stage a ≡ s → Relaxes K B state (memory heads sheet trail) m' u s (suc s)
-  relaxes_arc heads heads₁ sheet sheet₁ trail m' a v u s x h k e q o live from at' =
-      let o₁ = subst₂ (λ h k. Offered K (memory h k trail) m' v x a) h k o in
-      let o₂ = subst₂ (λ v x. Offered K (memory heads sheet trail) m' v x a) e q o₁ in
-      relaxes_offer (memory heads sheet trail) m' a u s o₂ live from at'
+  pub relaxes_arc : (m m₁ m' : Memory V) (a : Arc) (v u s : ℕ) (x : Ranked Money V) → m₁ ≡ m → v ≡ head (softened B) a → x ≡ offer_in K B state m a →
+      Offered K m₁ m' v x a → Live (softened B) (word_at state.words) a → tail (softened B) (at state.sent) a ≡ u → stage a ≡ s → Relaxes K B state m m' u s (suc s)
+  relaxes_arc m m₁ m' a v u s x same e q o live from at' =
+      let o₁ = subst (λ m. Offered K m m' v x a) same o in
+      let o₂ = subst₂ (λ v x. Offered K m m' v x a) e q o₁ in
+      relaxes_offer m m' a u s o₂ live from at'
 
 -- a label that was read is the new label of the node
-pub read_new : {V : Type 0} (K : Kind V) (heads : List Money) (sheet : List V) (trail : Trail) (n u : ℕ) (x : Ranked Money V) → u < nodes → n ≡ u → x ≡ label K heads sheet (nodes + n) → x ≡ new_of K (memory heads sheet trail) u
-read_new K heads sheet trail n u x l e q = q ∙ ap (λ n. label K heads sheet (nodes + n)) e ∙ sym (bank_in K nodes heads sheet u l)
+pub read_new : {V : Type 0} (K : Kind V) (m : Memory V) (n u : ℕ) (x : Ranked Money V) → u < nodes → n ≡ u → x ≡ label K m.heads m.sheet (nodes + n) → x ≡ new_of K m u
+read_new K m n u x l e q = q ∙ ap (λ n. label K m.heads m.sheet (nodes + n)) e ∙ sym (bank_in K nodes m.heads m.sheet u l)

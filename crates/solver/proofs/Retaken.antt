@@ -1,7 +1,7 @@
 -- A book that stays or is taken elsewhere, and labels found anew: the labels show the assignment least as before. Assumes nothing.
-use Rattle.std.proofs.Common.{◌≡◌, ℕ, ◌^◌, ◌<◌, ◌≤◌, Bool, true, false, List, length, get_or, set, replicate, None, Option, sym, ap, ◌∙◌, subst, subst₂, ⊎_elim, arith}
-use Rattle.std.proofs.lemmas.List.{get_or-set_same, get_or-set_other, get_or-replicate, get_or_past, length-replicate}
-use Rattle.std.proofs.lemmas.Bool.{cases_eq, cases_lt}
+use Rattle.std.proofs.Common.{◌≡◌, ℕ, ◌^◌, ◌<◌, ◌≤◌, Bool, true, List, length, set, replicate, Some, None, sym, ap, ◌∙◌, subst, subst₂, ⊎_elim, arith}
+use Rattle.std.proofs.lemmas.List.{get_or-set_same, get_or-set_other}
+use Rattle.std.proofs.lemmas.Bool.{cases_eq}
 use Rattle.amounts.specs.declared.money.Money.{Money}
 use Rattle.amounts.specs.declared.ranked.Ranked.{Ranked}
 use Rattle.amounts.specs.Kind.{Kind, Lawful, AtMost}
@@ -9,7 +9,7 @@ use Rattle.sources.specs.Tables.{bit_at}
 use Rattle.plans.specs.Places.{at}
 use Rattle.plans.specs.Problem.{Problem, member, count}
 use Rattle.plans.specs.Theorems.{Sound}
-use Rattle.solver.specs.declared.arcs.Arc.{Arc}
+use Rattle.solver.specs.declared.marks.Mark.{Mark}
 use Rattle.solver.specs.declared.state.State.{State}
 use Rattle.solver.specs.Soft.{soft_kind, softened}
 use Rattle.solver.specs.Residual.{node, quoted, moving, Counts, Inside}
@@ -21,6 +21,7 @@ use Rattle.solver.proofs.Soft.{soft_lawful}
 use Rattle.solver.proofs.Optimal.{quoted_light}
 use Rattle.solver.proofs.Violations.{softened_sound}
 use Rattle.solver.proofs.Begin.{soft_fits}
+use Rattle.solver.proofs.Marked.{all_seen, all_unranked, all_starts}
 use Rattle.solver.proofs.Reassign.{search_ends, walk_begins}
 
 -- the word of b is written
@@ -88,19 +89,13 @@ module _ {V : Type 0} {K : Kind V} (L : Lawful K) (B : Problem V) (s : Sound K B
 
   -- a search from all nodes has ended: its labels show the state least, and are at most zero
   pub refreshed : Straight K B → (state : State) (m₀ m₁ m₂ : Memory V) → 0 < B.weekends → 0 < B.classes → ShownIn K B state (old_of K m₀) → old_of K m₁ ≡ old_of K m₀ → ((v : ℕ) → new_of K m₁ v ≡ (soft_kind K).none) →
-      m₁.trail.seen ≡ replicate 129 true → m₁.trail.ranks ≡ replicate 129 129 → m₁.trail.arcs ≡ replicate 129 None → Searches K B state m₁ m₂ →
+      (mark : Mark) → m₁.marks ≡ replicate 129 (Some mark) → mark.rank ≡ None → mark.arc ≡ None → Searches K B state m₁ m₂ →
       ShownIn K B state (new_of K m₂) × ((v : ℕ) → v < nodes → AtMost (soft_kind K) (new_of K m₂ v) (soft_kind K).none)
-  refreshed straight state m₀ m₁ m₂ lw lc shown₀ old new all late fresh se =
+  refreshed straight state m₀ m₁ m₂ lw lc shown₀ old new mark all unranked start se =
       let shown : ShownIn K B state (old_of K m₁) = subst (ShownIn K B state) (sym old) shown₀ in
       let light : (v : ℕ) → (soft_kind K).weight (new_of K m₁ v) ≤ 10 ^ 9 = λ v. omega (arith, ap (soft_kind K).weight (new v), (soft_lawful L).none_weight) in
       let g = searchable straight state (seen_of m₁) (new_of K m₁) (old_of K m₁) shown light in
-      let seen : (v : ℕ) → v < nodes → seen_of m₁ v ≡ true = λ v l. ap (λ xs. get_or xs v false) all ∙ get_or-replicate 129 v true false l in
-      let ranks : (v : ℕ) → nodes ≤ rank_of m₁ v = λ v. ⊎_elim
-      (λ (l : v < nodes). omega (arith, ap (λ xs. get_or xs v nodes) late, get_or-replicate 129 v nodes nodes l))
-      (λ (l : nodes ≤ v). omega (arith, ap (λ xs. get_or xs v nodes) late, get_or_past (replicate 129 nodes) v nodes (omega (arith, length-replicate 129 nodes)))) (cases_lt v nodes) in
-      let arcs : (v : ℕ) → via_of m₁ v ≡ None = λ v. ⊎_elim
-      (λ (l : v < nodes). ap (λ xs. get_or xs v None) fresh ∙ get_or-replicate 129 v None None l)
-      (λ (l : nodes ≤ v). ap (λ xs. get_or xs v None) fresh ∙ get_or_past (replicate 129 None) v None (omega (arith, length-replicate {A = Option Arc} 129 None))) (cases_lt v nodes) in
-      let e = se.ended g ranks arcs light in
+      let seen = all_seen m₁ mark all in
+      let e = se.ended g (all_unranked m₁ mark all unranked) (all_starts m₁ mark all start) light in
       let done = search_ends (soft_lawful L) (softened B) (soft_charges K B) (word_at state.words) (seen_of m₁) (new_of K m₁) (at state.sent) (at state.counts) (old_of K m₁) g 0 0 lw lc (seen 0 (omega arith)) e.0 (new_of K m₂) (seen_of m₂) (rank_of m₂) (via_of m₂) e.1 e.2 in
       (record { light = done.light; inside = shown.inside; counts = shown.counts; valid = done.valid }, λ v l. subst (AtMost (soft_kind K) (new_of K m₂ v)) (new v) (done.starts v l (seen v l)))

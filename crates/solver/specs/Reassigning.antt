@@ -1,5 +1,5 @@
 -- One book is taken to other weekends: where its search starts, and when it may stay. Assumes nothing.
-use Rattle.std.specs.Prelude.{◌≡◌, ℕ, ◌^◌, ◌<◌, ◌≤◌, Bool, true, length, None}
+use Rattle.std.specs.Prelude.{◌≡◌, ℕ, ◌^◌, ◌<◌, ◌≤◌, Bool, true, None}
 use Rattle.std.specs.Ordering.{is_le}
 use Rattle.amounts.specs.declared.money.Money.{Money}
 use Rattle.amounts.specs.declared.ranked.Ranked.{Ranked}
@@ -18,7 +18,6 @@ use Rattle.solver.specs.Held.{Memory, old_of, new_of, seen_of, rank_of, via_of}
 module _ {V : Type 0} (K : Kind V) (B : Problem V) where
   -- a search is to start from the class of the book b at the weekends of the word `into`, at each with the book's quote for a first label; nothing is settled yet
   pub record Started (before after : Memory V) (b into : ℕ) : Type 0 where
-    pub long : length after.sheet ≡ length before.sheet
     pub old : old_of K after ≡ old_of K before
     pub starts : StartsAt (soft_kind K) (softened B) (seen_of after) (new_of K after) (B.class b) (bit_at into) (quoted (soft_kind K) (softened B) b)
     pub late : (v : ℕ) → nodes ≤ rank_of after v

@@ -4,15 +4,15 @@ use Rattle.plans.specs.declared.class_tree.Roster.{Roster}
 use Rattle.plans.specs.Places.{at}
 use Rattle.plans.specs.Posed.{Meaning, assignment_count}
 use Rattle.plans.specs.Sheets.{goes}
-use Rattle.solver.specs.declared.start.Offer.{Offer}
+use Rattle.solver.specs.declared.choices.Choice.{Choice}
 use Rattle.solver.specs.declared.state.State.{State}
 use Rattle.solver.specs.Residual.{node}
 use Rattle.solver.specs.Held.{word_at}
 
 -- of the weekends below n of a book with these quotes: none is open, or one that is open is found
-abbrev pub Found : {V X : Type 0} → (ℕ → Option V) → ℕ → Option (Offer X) → Type 0
+abbrev pub Found : {V X : Type 0} → (ℕ → Option V) → ℕ → Option (Choice X) → Type 0
 Found quotes n None = goes n quotes ≡ false
-Found quotes n (Some o) = (o.weekend < n) × (is_some (quotes o.weekend) ≡ true)
+Found quotes n (Some o) = (o.place < n) × (is_some (quotes o.place) ≡ true)
 
 -- the books below n are sent, and no other is counted
 pub record Placed {V : Type 0} (source : Meaning V) (roster : Roster) (n : ℕ) (s : State) : Type 0 where

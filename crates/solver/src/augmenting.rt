@@ -1,24 +1,26 @@
 // The walk that takes a book to its new place, back along the arcs by which a search reached the nodes.
-ghost use Rattle.std.specs.Prelude.{◌≡◌, ◌<◌, ◌≤◌, length, None, slice_index_or, slice_set};
+ghost use Rattle.std.specs.Prelude.{◌≡◌, ◌<◌, ◌≤◌, length, slice_set};
 ghost use Rattle.plans.specs.Places.{at};
 ghost use Rattle.solver.specs.Residual.{tail};
-ghost use Rattle.solver.specs.Held.{memory, old_of, posed_by, ShownIn, Walkable};
+ghost use Rattle.solver.specs.Held.{memory_of, old_of, posed_by, ShownIn, via_of, Walkable};
 ghost use Rattle.solver.specs.Undone.{Undoable, HasPlace, undone, placed};
 
 use crate::arcs::Arc;
 use crate::graph::Graph;
 use crate::labels::Labels;
-use crate::nodes::{above, node_of};
+use crate::nodes::Spot;
 use crate::state::State;
-use crate::trail::Trail;
+use amounts::Amount;
 use sources::Source;
 
-// The arc by which a node was reached; none where a search started.
-fn reached_by(trail: &Trail, node: usize) -> Option<Arc>
-    requires { node < 129 }
-    ensures { result ≡ slice_index_or trail.now.arcs node None }
-{
-    trail.arcs[node]
+impl<'a, X: Amount> Labels<'a, X> {
+    // The arc by which a node was reached; none where a search started.
+    fn reached_by(&self, node: usize) -> Option<Arc>
+        requires { node < 129 }
+        ensures { result ≡ via_of (memory_of self.now) node }
+    {
+        self.marks[node]?.arc
+    }
 }
 
 // Puts the book at the weekend, and gives it its new word.
@@ -41,18 +43,19 @@ impl<'a, S: Source> Graph<'a, S> {
     {
         match arc {
             Arc::Rise(weekend, class) => {
-                let node = node_of(weekend, class);
+                let node = Spot { weekend, class }.node();
                 state.counts[node] += 1;
                 node
             }
             Arc::Fall(weekend, class) => {
-                state.counts[node_of(weekend, class)] -= 1;
-                above(self.roster, weekend, class)
+                let spot = Spot { weekend, class };
+                state.counts[spot.node()] -= 1;
+                spot.above(self.roster)
             }
             Arc::Move(book, weekend) => {
-                let node = node_of(usize::from(state.sent[book]), self.roster.class_of(book));
+                let from = state.spot_of(self.roster, book);
                 state.sent[book] = weekend as u8;
-                node
+                from.node()
             }
         }
     }
@@ -64,23 +67,19 @@ impl<'a, S: Source> Graph<'a, S> {
         &self,
         state: &mut State,
         labels: &mut Labels<'_, S::Quote>,
-        trail: &Trail,
         book: usize,
         into: u16,
     )
-        requires walkable { Walkable S.Quote.Amount.kind (posed_by S.Source S.Quote.Amount.kind self.now) state.old (memory labels.old.heads labels.old.sheet.now trail.now) book into }
-        requires room { 258 ≤ length labels.old.sheet.now }
-        ensures shown { ShownIn S.Quote.Amount.kind (posed_by S.Source S.Quote.Amount.kind self.now) state.new (old_of S.Quote.Amount.kind (memory labels.new.heads labels.new.sheet.now trail.now)) }
+        requires { Walkable S.Quote.Amount.kind (posed_by S.Source S.Quote.Amount.kind self.now) state.old (memory_of labels.old) book into }
+        ensures shown { ShownIn S.Quote.Amount.kind (posed_by S.Source S.Quote.Amount.kind self.now) state.new (old_of S.Quote.Amount.kind (memory_of labels.new)) }
         ensures words { state.new.words ≡ slice_set state.old.words book into }
         ensures place { book < length state.old.words }
-        ensures long { length labels.new.sheet.now ≡ length labels.old.sheet.now }
-        ensures same { labels.new.sheet.ghost_name ≡ labels.old.sheet.ghost_name }
     {
-        let mut hole = node_of(usize::from(state.sent[book]), self.roster.class_of(book));
-        while let Some(arc) = reached_by(trail, hole) {
+        let mut hole = state.spot_of(self.roster, book).node();
+        while let Some(arc) = labels.reached_by(hole) {
             hole = self.undo(state, arc);
         }
-        place(state, book, hole / 8, into);
+        place(state, book, Spot::of(hole).weekend, into);
         labels.adopt();
     }
 }

@@ -9,39 +9,34 @@ ghost use Rattle.solver.specs.Residual.{node};
 ghost use Rattle.solver.specs.Held.{word_at};
 ghost use Rattle.solver.specs.Starting.{Found, Begun};
 
+use crate::choices::{Choice, cheaper};
 use crate::counts::enter;
 use crate::network::rise;
+use crate::nodes::Spot;
 use crate::state::State;
 use crate::words::has;
 use amounts::{Amount, Money, Ranked};
 use plans::{Bounds, Roster};
 use sources::Source;
 
-// A weekend that a book may go to, and what that costs.
-#[derive(Clone, Copy)]
-struct Offer<X> {
-    weekend: usize,
-    cost: X,
-}
-
 // The rises at the nodes of a weekend for a class and for every class above, added up.
 fn rises<X: Amount>(
     roster: &Roster,
     bounds: &Bounds,
     counts: &[usize; 128],
-    weekend: usize,
-    class: usize,
+    spot: Spot,
 ) -> Ranked<Money, X>
-    requires near { weekend < 16 }
-    requires known { class < roster.now.classes }
+    requires { spot.class < roster.now.classes }
 {
+    let Spot { weekend, class } = spot;
     let lower = bounds.lower(weekend, class);
     let upper = bounds.upper(weekend, class);
-    let own = rise::<X>(lower, upper, counts[weekend * 8 + class]);
+    let own = rise::<X>(lower, upper, counts[spot.node()]);
     if class == 0 {
         return own;
     }
-    let above = rises::<X>(roster, bounds, counts, weekend, roster.parent(class));
+    let class = roster.parent(class);
+    let above = rises::<X>(roster, bounds, counts, Spot { weekend, class });
     own.sum(above)
 }
 
@@ -53,34 +48,22 @@ fn price_weekend<S: Source>(
     counts: &[usize; 128],
     book: usize,
     weekend: usize,
-) -> Offer<Ranked<Money, S::Quote>>
+) -> Choice<Ranked<Money, S::Quote>>
     requires { weekend < 16 }
-    ensures { result.weekend ≡ weekend }
+    ensures { result.place ≡ weekend }
 {
-    let mut cost = rises::<S::Quote>(roster, bounds, counts, weekend, roster.class_of(book));
+    let class = roster.class_of(book);
+    let mut cost = rises::<S::Quote>(roster, bounds, counts, Spot { weekend, class });
     if let Some(quote) = source.quote(book, weekend) {
         cost.second = cost.second.sum(quote);
     }
-    Offer { weekend, cost }
-}
-
-// The cheaper of what was found so far, if anything, and one more; of equal ones the first.
-fn cheaper<X: Amount>(found: Option<Offer<X>>, more: Offer<X>) -> Offer<X>
-    ensures { MatchOption found (result ≡ more) (λ o. (result ≡ o) ⊎ (result ≡ more)) }
-{
-    match found {
-        Some(least) => {
-            if more.cost.compare(least.cost).is_lt() {
-                more
-            } else {
-                least
-            }
-        }
-        None => more,
+    Choice {
+        place: weekend,
+        cost,
     }
 }
 
-// The cheapest offer among the open weekends of a book, if it has one; its word says where it is open.
+// The cheapest choice among the open weekends of a book, if it has one; its word says where it is open.
 fn cheapest<S: Source>(
     source: &S,
     roster: &Roster,
@@ -88,7 +71,7 @@ fn cheapest<S: Source>(
     counts: &[usize; 128],
     word: u16,
     book: usize,
-) -> Option<Offer<Ranked<Money, S::Quote>>>
+) -> Option<Choice<Ranked<Money, S::Quote>>>
     requires { (w : ℕ) → bit_at word w ≡ is_some (S.Source.table source.now book w) }
     ensures { Found (S.Source.table source.now book) (S.Source.weeks source.now) result }
 {
@@ -133,7 +116,7 @@ pub(crate) fn first_state<S: Source>(
     };
     for book in 0..source.books() {
         let best = cheapest(source, roster, bounds, &state.counts, words[book], book)?;
-        place(&mut state, roster, book, best.weekend);
+        place(&mut state, roster, book, best.place);
     }
     Some(state)
 }

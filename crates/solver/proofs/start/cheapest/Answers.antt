@@ -1,5 +1,6 @@
 use Rattle.std.proofs.Common.{sym, refl, subst}
 use Rattle.plans.specs.Sheets.{some_below}
+use Rattle.solver.specs.Soft.{soft_kind}
 use Rattle.solver.specs.Starting.{Found}
 use Rattle.solver.proofs.Placing.{found_shut, found_open}
 use Rattle.solver.proofs.start.cheapest.Goals as goal
@@ -16,6 +17,6 @@ loop-weekend-preserved g c =
     let found = c.loop-weekend.found in
     elim c.if-has.branch [
       | then-has w ↦ subst (Found quotes _) (sym w.found-is)
-          (found_open quotes c.args.word c.requires n found c.loop-weekend.invariant w.if-has.ensures w.price_weekend-more.result w.cheaper.result w.price_weekend-more.ensures w.cheaper.ensures)
+          (found_open (soft_kind g.S.Quote.Amount.kind) quotes c.args.word c.requires n found c.loop-weekend.invariant w.if-has.ensures w.price_weekend-more.result w.cheaper.result w.price_weekend-more.ensures w.cheaper.ensures)
       | else-has w ↦ subst (Found quotes _) (sym w.found-is) (found_shut quotes c.args.word c.requires n found c.loop-weekend.invariant w.if-has.ensures)
     ]

@@ -24,7 +24,7 @@ place-requires g c =
     record {
       near = omega (arith, found.0);
       within = omega arith;
-      room = placed_room (meaning g.S.Source s) c.args.roster.now c.loop-book.book c.loop-book.state c.loop-book.invariant.0 c.in_ok-best.best.weekend (omega arith) (omega (arith, found.0));
+      room = placed_room (meaning g.S.Source s) c.args.roster.now c.loop-book.book c.loop-book.state c.loop-book.invariant.0 c.in_ok-best.best.place (omega arith) (omega (arith, found.0));
     }
 
 pub loop-book-preserved : goal.loop-book-preserved
@@ -35,7 +35,7 @@ loop-book-preserved g c =
     let found = subst (Found (g.S.Source.table s c.loop-book.book) (g.S.Source.weeks s)) c.in_ok-best.was c.cheapest.ensures in
     let before = c.loop-book.state in
     let after = c.place.new.state in (
-      placed_more (meaning g.S.Source s) c.args.roster.now c.loop-book.book before c.loop-book.invariant.0 c.in_ok-best.best.weekend
+      placed_more (meaning g.S.Source s) c.args.roster.now c.loop-book.book before c.loop-book.invariant.0 c.in_ok-best.best.place
           after (omega arith) (omega arith) c.place.ensures.sent c.place.ensures.words found.0 found.1 c.place.ensures.counts,
       still_long 120 before.sent after.sent c.loop-book.book _ c.place.ensures.sent c.loop-book.invariant.1,
       still_long 120 before.words after.words c.loop-book.book _ c.place.ensures.words c.loop-book.invariant.2,

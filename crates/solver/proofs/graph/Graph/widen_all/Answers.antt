@@ -1,26 +1,21 @@
-use Rattle.std.proofs.Common.{◌<◌, refl, ◌∙◌, not-suc-le-zero, arith}
+use Rattle.std.proofs.Common.{◌<◌, not-suc-le-zero, arith}
 use Rattle.solver.proofs.Widened.{widened_more}
 use Rattle.solver.proofs.graph.Graph.widen_all.Goals as goal
 
 pub loop-book-init : goal.loop-book-init
-loop-book-init g c = (c.requires.shown, λ b x h. absurd (not-suc-le-zero h), refl, refl)
+loop-book-init g c = (c.requires.shown, λ b x h. absurd (not-suc-le-zero h))
 
 pub reassign-requires : goal.reassign-requires
 reassign-requires g c =
     let within : c.loop-book.book < g.S.Source.count c.args.self.now.source.now = omega (arith, c.books-book-end.ensures) in
-    record { book = within; some = c.requires.some c.loop-book.book within; sound = c.requires.sound; shown = c.loop-book.invariant.0; room = omega (arith, c.requires.room, c.loop-book.invariant.2) }
+    record { book = within; some = c.requires.some c.loop-book.book within; sound = c.requires.sound; shown = c.loop-book.invariant.0 }
 
 pub loop-book-preserved : goal.loop-book-preserved
 loop-book-preserved g c =
-    let i = c.loop-book.invariant in
-    let r = c.reassign.ensures in (
-      r.shown,
-      widened_more c.args.words.now c.loop-book.state.words _ c.loop-book.book r.place r.words i.1,
-      r.long ∙ i.2,
-      r.same ∙ i.3,
-    )
+    let r = c.reassign.ensures in
+    (r.shown, widened_more c.args.words.now c.loop-book.state.words _ c.loop-book.book r.place r.words c.loop-book.invariant.1)
 
 pub returns : goal.returns
 returns g c =
     let i = c.loop-book.invariant in
-    record { shown = i.0; words = λ b x l. i.1 b x (omega (arith, c.books-book-end.ensures, c.loop-book-test.false)); long = i.2; same = i.3 }
+    record { shown = i.0; words = λ b x l. i.1 b x (omega (arith, c.books-book-end.ensures, c.loop-book-test.false)) }
