@@ -1,11 +1,9 @@
 -- Words of open weekends, weekend by weekend and book by book. Assumes nothing.
-use Rattle.std.proofs.Common.{◌≡◌, ℕ, zero, suc, ◌+◌, ◌^◌, ◌<◌, ◌≤◌, Bool, true, false, ◌&&◌, eqb, ltb, List, length, get_or, set, replicate, is_some, Option, sym, refl, ap, ◌∙◌, ⊎_elim, arith}
+use Rattle.std.proofs.Common.{◌≡◌, ℕ, zero, suc, ◌+◌, ◌^◌, ◌<◌, ◌≤◌, Bool, true, false, ◌&&◌, eqb, ltb, get_or, replicate, is_some, Option, sym, refl, ap, ◌∙◌, ⊎_elim, arith}
 use lib.Bits.{bit_or}
-use Rattle.std.proofs.lemmas.List.{get_or-set_same, get_or-set_other}
-use Rattle.std.proofs.lemmas.Bool.{cases_eq, cases_lt, lt-ltb, le-ltb, eq-eqb, ne_eqb, and_from, and_left, and_right, cond-true, cond-false}
+use Rattle.std.proofs.lemmas.Bool.{cases_eq, cases_lt, lt-ltb, le-ltb, eq-eqb, ne_eqb, and_from, and_right, cond-true, cond-false}
 use Rattle.sources.specs.Tables.{bit_at}
-use Rattle.sources.proofs.Bits16.{set_bit, bit_none}
-use Rattle.solver.specs.Held.{word_at}
+use Rattle.sources.proofs.Bits16.{set_bit}
 
 pub ltb_more : (i n : ℕ) → (i ≡ n → ⊥) → ltb i (n + 1) ≡ ltb i n
 ltb_more i n d =
@@ -47,16 +45,3 @@ pub get_or_same : {X : Type 0} (x : X) (n i : ℕ) → get_or (replicate n x) i 
 get_or_same x zero i = refl
 get_or_same x (suc n) zero = refl
 get_or_same x (suc n) (suc i) = get_or_same x n i
-
--- words of no book
-pub words_none : (t : ℕ → ℕ → Bool) (n : ℕ) (b w : ℕ) → word_at (replicate n 0) b w ≡ (ltb b 0 && t b w)
-words_none t n b w = ap (λ word. bit_at word w) (get_or_same 0 n b) ∙ bit_none w ∙ sym (and_left (ltb b 0) (t b w) (le-ltb b 0 (omega arith)))
-
--- the word of one more book
-pub words_more : (t : ℕ → ℕ → Bool) (n : ℕ) (words : List ℕ) (word : ℕ) → ((b w : ℕ) → word_at words b w ≡ (ltb b n && t b w)) → n < length words → ((w : ℕ) → bit_at word w ≡ t n w) →
-    (b w : ℕ) → word_at (set words n word) b w ≡ (ltb b (n + 1) && t b w)
-words_more t n words word before within bits b w =
-    ⊎_elim
-    (λ (e : b ≡ n). rw e (ap (λ x. bit_at x w) (get_or-set_same words n word 0 within) ∙ bits w ∙ ap (λ x. x && t n w) (sym (lt-ltb n (n + 1) (omega arith)))))
-    (λ (d : b ≡ n → ⊥). ap (λ x. bit_at x w) (get_or-set_other words n b word 0 d) ∙ before b w ∙ ap (λ x. x && t b w) (sym (ltb_more b n d)))
-    (cases_eq b n)

@@ -1,5 +1,5 @@
 -- What the arrays of the code hold: labels, a search, an assignment. Assumes nothing.
-use Rattle.std.specs.Prelude.{◌≡◌, ℕ, ◌+◌, ◌*◌, ◌^◌, ◌<◌, ◌≤◌, Bool, true, false, cond, not, ◌&&◌, ◌||◌, List, pos, is_some, Some, None, Option, ◌≢◌, nat_le, nat_lt, slice_index, slice_index_or, slice_set}
+use Rattle.std.specs.Prelude.{◌≡◌, ℕ, ◌+◌, ◌*◌, ◌^◌, ◌<◌, ◌≤◌, Bool, true, false, cond, not, ◌&&◌, ◌||◌, List, pos, is_some, IfSome, Some, None, Option, ◌≢◌, nat_le, nat_lt, slice_index, slice_index_or, slice_set}
 use Rattle.std.specs.Option.{unwrap_or}
 use Rattle.std.specs.Ordering.{is_lt}
 use Rattle.amounts.specs.declared.money.Money.{Money}
@@ -139,6 +139,11 @@ NoneOpen m = (v : ℕ) → v < nodes → open_of m v ≡ false
 -- the word of a book: may it go to the weekend x?
 abbrev pub word_at : List ℕ → ℕ → ℕ → Bool
 word_at words b x = bit_at (slice_index words b) x
+
+-- the word of a book's row of quotes: it has the weekends where the book is open, and what is quoted below the weekend `weeks` is light
+pub record WordOf {V : Type 0} (K : Kind V) (row : ℕ → Option V) (weeks : ℕ) (word : ℕ) : Type 0 where
+  pub bits : (w : ℕ) → bit_at word w ≡ is_some (row w)
+  pub light : (w : ℕ) → w < weeks → IfSome (row w) (λ x. K.weight x ≤ 10 ^ 9)
 
 -- the problem of a graph, where no limit is looked at
 abbrev pub posed_by : {S V : Type 0} → Ghosts S V → Kind V → Graph S → Problem V

@@ -30,8 +30,8 @@ impl<'a, S: Source> Graph<'a, S> {
         ensures shown { ShownIn S.Quote.Amount.kind (posed_by S.Source S.Quote.Amount.kind self.now) state.new (old_of S.Quote.Amount.kind (memory_of labels.new)) }
         ensures words { (b x : ℕ) → b < S.Source.count self.now.source.now → word_at state.new.words b x ≡ word_at words.now b x }
     {
-        for book in 0..self.source.books() {
-            self.reassign(state, labels, book, words[book]);
+        for (book, word) in words[..self.source.books()].iter().enumerate() {
+            self.reassign(state, labels, book, *word);
         }
     }
 

@@ -1,5 +1,5 @@
 // The assignment that a search starts from: book by book, each goes where it is cheapest at that moment.
-ghost use Rattle.std.specs.Prelude.{◌≡◌, ℕ, ◌+◌, ◌^◌, ◌<◌, ◌≤◌, true, ◌&&◌, ◌⊎◌, is_some, MatchOption, ◌==◌, slice_set};
+ghost use Rattle.std.specs.Prelude.{◌≡◌, ℕ, ◌+◌, ◌^◌, ◌<◌, ◌≤◌, true, ◌&&◌, is_some, MatchOption, ◌==◌, slice_set};
 ghost use Rattle.sources.specs.Tables.{bit_at};
 ghost use Rattle.amounts.specs.Sums.{bit};
 ghost use Rattle.plans.specs.Places.{at};
@@ -76,6 +76,7 @@ fn cheapest<S: Source>(
     ensures { Found (S.Source.table source.now book) (S.Source.weeks source.now) result }
 {
     let mut found = None;
+    // Stays: (c) as a chain with `min_by` it is proved that an open weekend is answered, and not that none is open where none is ("`search`: no proof").
     for weekend in 0..source.weekends() {
         if has(word, weekend) {
             let more = price_weekend(source, roster, bounds, counts, book, weekend);
@@ -114,8 +115,8 @@ pub(crate) fn first_state<S: Source>(
         counts: [0; 128],
         words: [0; 120],
     };
-    for book in 0..source.books() {
-        let best = cheapest(source, roster, bounds, &state.counts, words[book], book)?;
+    for (book, word) in words[..source.books()].iter().enumerate() {
+        let best = cheapest(source, roster, bounds, &state.counts, *word, book)?;
         place(&mut state, roster, book, best.place);
     }
     Some(state)

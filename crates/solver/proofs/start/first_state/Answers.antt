@@ -1,4 +1,5 @@
 use Rattle.std.proofs.Common.{refl, subst, arith}
+use Rattle.std.proofs.lemmas.List.{length-take}
 use Rattle.plans.specs.Posed.{meaning}
 use Rattle.solver.specs.Starting.{Found}
 use Rattle.solver.proofs.Placing.{none_open, placed_none, placed_room, placed_more, still_long}
@@ -10,14 +11,16 @@ loop-book-init g c = (placed_none (meaning g.S.Source c.args.source.now) c.args.
 pub returns-in_err-best : goal.returns-in_err-best
 returns-in_err-best g c =
     let s = c.args.source.now in
-    let books = c.books-book-end.ensures in
+    let books = c.books.ensures in
+    let long = length-take c.books.result c.args.words.now in
     rw c.from_residual.ensures (none_open (g.S.Source.count s) (g.S.Source.weeks s) (g.S.Source.table s) c.loop-book.book (omega arith)
     (subst (Found (g.S.Source.table s c.loop-book.book) (g.S.Source.weeks s)) c.in_err-best.was c.cheapest.ensures))
 
 pub place-requires : goal.place-requires
 place-requires g c =
     let s = c.args.source.now in
-    let books = c.books-book-end.ensures in
+    let books = c.books.ensures in
+    let long = length-take c.books.result c.args.words.now in
     let few = g.S.Source.ranges.few_books s in
     let weeks = g.S.Source.ranges.few_weeks s in
     let found = subst (Found (g.S.Source.table s c.loop-book.book) (g.S.Source.weeks s)) c.in_ok-best.was c.cheapest.ensures in
@@ -30,7 +33,8 @@ place-requires g c =
 pub loop-book-preserved : goal.loop-book-preserved
 loop-book-preserved g c =
     let s = c.args.source.now in
-    let books = c.books-book-end.ensures in
+    let books = c.books.ensures in
+    let long = length-take c.books.result c.args.words.now in
     let few = g.S.Source.ranges.few_books s in
     let found = subst (Found (g.S.Source.table s c.loop-book.book) (g.S.Source.weeks s)) c.in_ok-best.was c.cheapest.ensures in
     let before = c.loop-book.state in

@@ -1,4 +1,6 @@
-use Rattle.std.proofs.Common.{◌<◌, not-suc-le-zero, arith}
+use Rattle.std.proofs.Common.{◌<◌, set, ap, ◌∙◌, not-suc-le-zero, arith}
+use Rattle.std.proofs.lemmas.List.{length-take, get_or-take}
+use Rattle.sources.specs.Tables.{bit_at}
 use Rattle.solver.proofs.Widened.{widened_more}
 use Rattle.solver.proofs.graph.Graph.widen_all.Goals as goal
 
@@ -7,15 +9,22 @@ loop-book-init g c = (c.requires.shown, λ b x h. absurd (not-suc-le-zero h))
 
 pub reassign-requires : goal.reassign-requires
 reassign-requires g c =
-    let within : c.loop-book.book < g.S.Source.count c.args.self.now.source.now = omega (arith, c.books-book-end.ensures) in
-    record { book = within; some = c.requires.some c.loop-book.book within; sound = c.requires.sound; shown = c.loop-book.invariant.0 }
+    let within : c.loop-book.book < g.S.Source.count c.args.self.now.source.now = omega (arith, c.books.ensures, length-take c.books.result c.args.words.now) in
+    let some = c.requires.some c.loop-book.book within in
+    record {
+      book = within;
+      some = (some.0, some.1, ap (λ word. bit_at word some.0) (get_or-take c.books.result c.args.words.now c.loop-book.book 0 (omega (arith, c.books.ensures))) ∙ some.2);
+      sound = c.requires.sound;
+      shown = c.loop-book.invariant.0;
+    }
 
 pub loop-book-preserved : goal.loop-book-preserved
 loop-book-preserved g c =
     let r = c.reassign.ensures in
-    (r.shown, widened_more c.args.words.now c.loop-book.state.words _ c.loop-book.book r.place r.words c.loop-book.invariant.1)
+    let word = get_or-take c.books.result c.args.words.now c.loop-book.book 0 (omega (arith, length-take c.books.result c.args.words.now)) in
+    (r.shown, widened_more c.args.words.now c.loop-book.state.words _ c.loop-book.book r.place (r.words ∙ ap (set c.loop-book.state.words c.loop-book.book) word) c.loop-book.invariant.1)
 
 pub returns : goal.returns
 returns g c =
     let i = c.loop-book.invariant in
-    record { shown = i.0; words = λ b x l. i.1 b x (omega (arith, c.books-book-end.ensures, c.loop-book-test.false)) }
+    record { shown = i.0; words = λ b x l. i.1 b x (omega (arith, c.books.ensures, length-take c.books.result c.args.words.now, c.loop-book-test.false)) }
