@@ -21,6 +21,7 @@ use Rattle.solver.proofs.Optimal.{quoted_light}
 use Rattle.solver.proofs.Violations.{softened_sound}
 use Rattle.solver.proofs.Banks.{bank_first, bank_set_here, bank_set_other, old_kept}
 use Rattle.solver.proofs.Marked.{none_seen, none_ranked, none_reached, seen_here, via_here, mark_there, ranks_kept}
+use Rattle.solver.specs.States.{sent_of}
 
 -- ---- the starts
 module _ {V : Type 0} (K : Kind V) (B : Problem V) (b into : ℕ) where
@@ -155,13 +156,13 @@ module _ {V : Type 0} (K : Kind V) (B : Problem V) (state : State) (l : ℕ → 
 
 module _ {V : Type 0} {K : Kind V} (L : Lawful K) (B : Problem V) (state : State) (l : ℕ → Ranked Money V) (b into : ℕ) where
   -- where all is light, the comparison says what it seems to say
-  at_most : Sound K B → LightLabels (soft_kind K) (softened B) l → b < B.books → at state.sent b < B.weekends → (x : ℕ) → x < B.weekends → stays_by K B state l b x ≡ true →
-      AtMost (soft_kind K) (l (node x (B.class b))) ((soft_kind K).plus (l (node (at state.sent b) (B.class b))) (moving (soft_kind K) (softened B) b (at state.sent b) x))
+  at_most : Sound K B → LightLabels (soft_kind K) (softened B) l → b < B.books → at (sent_of state) b < B.weekends → (x : ℕ) → x < B.weekends → stays_by K B state l b x ≡ true →
+      AtMost (soft_kind K) (l (node x (B.class b))) ((soft_kind K).plus (l (node (at (sent_of state) b) (B.class b))) (moving (soft_kind K) (softened B) b (at (sent_of state) b) x))
   unfolding law_limit
   at_most s light lb lw x lx e =
       let L' = soft_lawful L in
       let S = softened_sound L B s in
-      let y = at state.sent b in
+      let y = at (sent_of state) b in
       let qx = quoted (soft_kind K) (softened B) b x in
       let qy = quoted (soft_kind K) (softened B) b y in
       let wx = quoted_light L' (softened B) S b x lb lx in
@@ -172,5 +173,5 @@ module _ {V : Type 0} {K : Kind V} (L : Lawful K) (B : Problem V) (state : State
       let to = light (node x (B.class b)) in
       at_most_from_le L' _ _ (omega (arith, L'.plus_weight (l (node y (B.class b))) (moving (soft_kind K) (softened B) b y x) (omega arith))) e
 
-  pub tried_all : (n : ℕ) → B.weekends ≤ n → b < B.books → at state.sent b < B.weekends → bit_at into (at state.sent b) ≡ true → Tried K B state l b into n → Stays K B state l b into
+  pub tried_all : (n : ℕ) → B.weekends ≤ n → b < B.books → at (sent_of state) b < B.weekends → bit_at into (at (sent_of state) b) ≡ true → Tried K B state l b into n → Stays K B state l b into
   tried_all n end lb lw own i = record { own = own; moved = λ s light x lx e. at_most s light lb lw x lx (i x (omega arith) e) }

@@ -25,6 +25,7 @@ use Rattle.solver.proofs.Banks.{bank_first, bank_set_other, front_set}
 use Rattle.solver.proofs.Begin.{soft_fits, cold_valid}
 use Rattle.solver.proofs.Rises.{rise_under, rise_inside, rise_over, fall_under, fall_inside, fall_over}
 use Rattle.solver.proofs.Soft.{soft_lawful, one_light, one_positive}
+use Rattle.solver.specs.States.{sent_of, words_of}
 
 -- ---- the entry, case by case
 module _ {V : Type 0} (K : Kind V) (one : V) (lower upper m : ℕ) where
@@ -170,7 +171,7 @@ flat_shown {K = K} L source roster bounds limit state l n s begun all i =
     record {
       light = light;
       inside = record { sent = begun.sent; meets = begun.own };
-      counts = λ w c lw lc. begun.counts w c (omega (arith, s.weekends)) (omega arith) ∙ sym ((assigned_is K source roster bounds limit state.sent).1 w c);
-      valid = cold_valid (soft_lawful L) (softened B) (soft_charges K B) (soft_fits L B s (λ w c _ _. bounds_straight bounds w c)) (word_at state.words) l (entry K B (at state.counts)) (at state.sent) (at state.counts) light begun.sent begun.fixed
+      counts = λ w c lw lc. begun.counts w c (omega (arith, s.weekends)) (omega arith) ∙ sym ((assigned_is K source roster bounds limit (sent_of state)).1 w c);
+      valid = cold_valid (soft_lawful L) (softened B) (soft_charges K B) (soft_fits L B s (λ w c _ _. bounds_straight bounds w c)) (word_at (words_of state)) l (entry K B (at state.counts)) (at (sent_of state)) (at state.counts) light begun.sent begun.fixed
           (λ w c lw lc. stepped L B (at state.counts) l w c (bounds_straight bounds w c) (i.labels w c lw lc (omega arith)));
     }

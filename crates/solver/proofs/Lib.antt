@@ -16,6 +16,7 @@ pub mod Stages
 pub mod Above
 pub mod Banks
 pub mod Marked
+pub mod Stated
 pub mod Offering
 pub mod Relaxed
 pub mod Outgoing

@@ -10,6 +10,7 @@ use Rattle.plans.proofs.Posing.{posed_sound}
 use Rattle.solver.specs.declared.state.State.{State}
 use Rattle.solver.specs.Starting.{Begun}
 use Rattle.solver.specs.Held.{word_at}
+use Rattle.solver.specs.States.{sent_of}
 
 -- no limit is looked at, so none is too heavy
 pub unlimited_sound : {V : Type 0} {K : Kind V} → Lawful K → (source : Meaning V) (roster : Roster) (bounds : Bounds) → source.books ≤ 120 → source.weekends ≤ 16 →
@@ -18,4 +19,4 @@ unlimited_sound {K = K} L source roster bounds books weekends quotes = posed_sou
 
 -- each book has an open weekend: the one that it is sent to
 pub opened : {V : Type 0} (source : Meaning V) (roster : Roster) (state : State) (words : List ℕ) → Begun source roster state → ((b w : ℕ) → word_at words b w ≡ is_some (source.quote b w)) → (b : ℕ) → b < source.books → (x : ℕ) × (x < source.weekends) × (word_at words b x ≡ true)
-opened source roster state words begun bits b l = (at state.sent b, begun.sent b l, bits b (at state.sent b) ∙ begun.meets b l)
+opened source roster state words begun bits b l = (at (sent_of state) b, begun.sent b l, bits b (at (sent_of state) b) ∙ begun.meets b l)

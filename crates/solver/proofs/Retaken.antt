@@ -18,11 +18,13 @@ use Rattle.solver.specs.Flows.{Straight, Shown, soft_charges}
 use Rattle.solver.specs.Held.{Memory, old_of, new_of, seen_of, rank_of, via_of, word_at, SearchableIn, Searches, ShownIn, Walkable}
 use Rattle.solver.specs.Reassigning.{Started, Stays}
 use Rattle.solver.proofs.Soft.{soft_lawful}
+use Rattle.solver.proofs.Stated.{words_long}
 use Rattle.solver.proofs.Optimal.{quoted_light}
 use Rattle.solver.proofs.Violations.{softened_sound}
 use Rattle.solver.proofs.Begin.{soft_fits}
 use Rattle.solver.proofs.Marked.{all_seen, all_unranked, all_starts}
 use Rattle.solver.proofs.Reassign.{search_ends, walk_begins}
+use Rattle.solver.specs.States.{sent_of, words_of}
 
 -- the word of b is written
 word_here : (words : List ℕ) (b into x : ℕ) → b < length words → word_at (set words b into) b x ≡ bit_at into x
@@ -40,33 +42,35 @@ module _ {V : Type 0} {K : Kind V} (L : Lawful K) (B : Problem V) (s : Sound K B
   counts_soft p f c = c
 
   -- the book stays
-  stayed : (state : State) (l : ℕ → Ranked Money V) (b into : ℕ) → b < B.books → b < length state.words → ShownIn K B state l → Stays K B state l b into → Shown K B (word_at (set state.words b into)) l (at state.sent) (at state.counts)
-  stayed state l b into lb lw shown stays = record {
-    light = shown.light;
-    inside = record {
-      sent = shown.inside.sent;
-      meets = λ j lj. ⊎_elim
-          (λ (e : j ≡ b). subst (λ j. word_at (set state.words b into) j (at state.sent j) ≡ true) (sym e) (word_here state.words b into (at state.sent b) lw ∙ stays.own))
-          (λ (d : j ≡ b → ⊥). word_there state.words b into j (at state.sent j) d ∙ shown.inside.meets j lj) (cases_eq j b);
-    };
-    counts = shown.counts;
-    valid = record {
-      rising = shown.valid.rising;
-      falling = shown.valid.falling;
-      moved = λ j x lj lx m. ⊎_elim
-          (λ (e : j ≡ b). subst (λ j. word_at (set state.words b into) j x ≡ true → AtMost (soft_kind K) (l (node x (B.class j))) ((soft_kind K).plus (l (node (at state.sent j) (B.class j))) (moving (soft_kind K) (softened B) j (at state.sent j) x))) (sym e)
-          (λ m. stays.moved s shown.light x lx (sym (word_here state.words b into x lw) ∙ m)) m)
-          (λ (d : j ≡ b → ⊥). shown.valid.moved j x lj lx (sym (word_there state.words b into j x d) ∙ m)) (cases_eq j b);
-    };
-  }
+  stayed : (state : State) (l : ℕ → Ranked Money V) (b into : ℕ) → b < B.books → ShownIn K B state l → Stays K B state l b into → Shown K B (word_at (set (words_of state) b into)) l (at (sent_of state)) (at state.counts)
+  stayed state l b into lb shown stays =
+      let few = s.books in
+      let lw : b < length (words_of state) = omega (arith, words_long state) in record {
+        light = shown.light;
+        inside = record {
+          sent = shown.inside.sent;
+          meets = λ j lj. ⊎_elim
+              (λ (e : j ≡ b). subst (λ j. word_at (set (words_of state) b into) j (at (sent_of state) j) ≡ true) (sym e) (word_here (words_of state) b into (at (sent_of state) b) lw ∙ stays.own))
+              (λ (d : j ≡ b → ⊥). word_there (words_of state) b into j (at (sent_of state) j) d ∙ shown.inside.meets j lj) (cases_eq j b);
+        };
+        counts = shown.counts;
+        valid = record {
+          rising = shown.valid.rising;
+          falling = shown.valid.falling;
+          moved = λ j x lj lx m. ⊎_elim
+              (λ (e : j ≡ b). subst (λ j. word_at (set (words_of state) b into) j x ≡ true → AtMost (soft_kind K) (l (node x (B.class j))) ((soft_kind K).plus (l (node (at (sent_of state) j) (B.class j))) (moving (soft_kind K) (softened B) j (at (sent_of state) j) x))) (sym e)
+              (λ m. stays.moved s shown.light x lx (sym (word_here (words_of state) b into x lw) ∙ m)) m)
+              (λ (d : j ≡ b → ⊥). shown.valid.moved j x lj lx (sym (word_there (words_of state) b into j x d) ∙ m)) (cases_eq j b);
+        };
+      }
 
-  pub stay_shown : (state state' : State) (l l' : ℕ → Ranked Money V) (b into : ℕ) → b < B.books → b < length state.words → ShownIn K B state l → Stays K B state l b into → state'.sent ≡ state.sent → state'.counts ≡ state.counts → state'.words ≡ set state.words b into → l' ≡ l →
+  pub stay_shown : (state state' : State) (l l' : ℕ → Ranked Money V) (b into : ℕ) → b < B.books → ShownIn K B state l → Stays K B state l b into → (sent_of state') ≡ (sent_of state) → state'.counts ≡ state.counts → (words_of state') ≡ set (words_of state) b into → l' ≡ l →
       ShownIn K B state' l'
-  stay_shown state state' l l' b into lb lw shown stays e f w q =
-      let x = stayed state l b into lb lw shown stays in
-      let x₁ = subst (λ ws. Shown K B (word_at ws) l (at state.sent) (at state.counts)) (sym w) x in
-      let x₂ = subst₂ (λ ps fs. Shown K B (word_at state'.words) l (at ps) (at fs)) (sym e) (sym f) x₁ in
-      subst (λ l. Shown K B (word_at state'.words) l (at state'.sent) (at state'.counts)) (sym q) x₂
+  stay_shown state state' l l' b into lb shown stays e f w q =
+      let x = stayed state l b into lb shown stays in
+      let x₁ = subst (λ ws. Shown K B (word_at ws) l (at (sent_of state)) (at state.counts)) (sym w) x in
+      let x₂ = subst₂ (λ ps fs. Shown K B (word_at (words_of state')) l (at ps) (at fs)) (sym e) (sym f) x₁ in
+      subst (λ l. Shown K B (word_at (words_of state')) l (at (sent_of state')) (at state'.counts)) (sym q) x₂
 
   -- a search may be made where the labels show the state least
   searchable : Straight K B → (state : State) (origin : ℕ → Bool) (begin l : ℕ → Ranked Money V) → ShownIn K B state l → ((v : ℕ) → (soft_kind K).weight (begin v) ≤ 10 ^ 9) → SearchableIn K B state origin begin l
@@ -83,8 +87,8 @@ module _ {V : Type 0} {K : Kind V} (L : Lawful K) (B : Problem V) (s : Sound K B
       record {
         book = lb;
         fits = soft_fits L B s straight;
-        ended = walk_begins (soft_lawful L) (softened B) (soft_charges K B) (word_at state.words) b (seen_of m₁) (bit_at into) (new_of K m₁) (quoted (soft_kind K) (softened B) b) (at state.sent) (at state.counts) (old_of K m₁) lb
-            (inside_soft (word_at state.words) (at state.sent) shown.inside) (counts_soft (at state.sent) (at state.counts) shown.counts) g st.starts x₀ lx ix e.0 (new_of K m₂) (seen_of m₂) (rank_of m₂) (via_of m₂) e.1 e.2;
+        ended = walk_begins (soft_lawful L) (softened B) (soft_charges K B) (word_at (words_of state)) b (seen_of m₁) (bit_at into) (new_of K m₁) (quoted (soft_kind K) (softened B) b) (at (sent_of state)) (at state.counts) (old_of K m₁) lb
+            (inside_soft (word_at (words_of state)) (at (sent_of state)) shown.inside) (counts_soft (at (sent_of state)) (at state.counts) shown.counts) g st.starts x₀ lx ix e.0 (new_of K m₂) (seen_of m₂) (rank_of m₂) (via_of m₂) e.1 e.2;
       }
 
   -- a search from all nodes has ended: its labels show the state least, and are at most zero
@@ -97,5 +101,5 @@ module _ {V : Type 0} {K : Kind V} (L : Lawful K) (B : Problem V) (s : Sound K B
       let g = searchable straight state (seen_of m₁) (new_of K m₁) (old_of K m₁) shown light in
       let seen = all_seen m₁ mark all in
       let e = se.ended g (all_unranked m₁ mark all unranked) (all_starts m₁ mark all start) light in
-      let done = search_ends (soft_lawful L) (softened B) (soft_charges K B) (word_at state.words) (seen_of m₁) (new_of K m₁) (at state.sent) (at state.counts) (old_of K m₁) g 0 0 lw lc (seen 0 (omega arith)) e.0 (new_of K m₂) (seen_of m₂) (rank_of m₂) (via_of m₂) e.1 e.2 in
+      let done = search_ends (soft_lawful L) (softened B) (soft_charges K B) (word_at (words_of state)) (seen_of m₁) (new_of K m₁) (at (sent_of state)) (at state.counts) (old_of K m₁) g 0 0 lw lc (seen 0 (omega arith)) e.0 (new_of K m₂) (seen_of m₂) (rank_of m₂) (via_of m₂) e.1 e.2 in
       (record { light = done.light; inside = shown.inside; counts = shown.counts; valid = done.valid }, λ v l. subst (AtMost (soft_kind K) (new_of K m₂ v)) (new v) (done.starts v l (seen v l)))

@@ -19,6 +19,7 @@ use Rattle.solver.proofs.Soft.{soft_lawful}
 use Rattle.solver.proofs.Begin.{search_steps}
 use Rattle.solver.proofs.Marked.{seen_within}
 use Rattle.solver.proofs.Paths.{all_light}
+use Rattle.solver.specs.States.{sent_of, words_of}
 
 module _ {V : Type 0} {K : Kind V} (L : Lawful K) (B : Problem V) (state : State) where
   -- t turns were made since the search began
@@ -27,8 +28,8 @@ module _ {V : Type 0} {K : Kind V} (L : Lawful K) (B : Problem V) (state : State
     pub seeks : SearchableIn K B state (seen_of m₀) (new_of K m₀) (old_of K m₀) → ((v : ℕ) → nodes ≤ rank_of m₀ v) → ((v : ℕ) → via_of m₀ v ≡ None) → ((v : ℕ) → (soft_kind K).weight (new_of K m₀ v) ≤ 10 ^ 9) →
         SeeksIn K B state (seen_of m₀) (new_of K m₀) (old_of K m₀) m t
 
-  steps : (m : Memory V) (origin : ℕ → Bool) (begin pot : ℕ → Ranked Money V) → SearchableIn K B state origin begin pot → SearchKept (soft_kind K) (softened B) (soft_charges K B) (word_at state.words) origin begin (at state.sent) (at state.counts) pot
-  steps m origin begin pot g = search_steps (soft_lawful L) (softened B) (soft_charges K B) (word_at state.words) origin begin (at state.sent) (at state.counts) pot g
+  steps : (m : Memory V) (origin : ℕ → Bool) (begin pot : ℕ → Ranked Money V) → SearchableIn K B state origin begin pot → SearchKept (soft_kind K) (softened B) (soft_charges K B) (word_at (words_of state)) origin begin (at (sent_of state)) (at state.counts) pot
+  steps m origin begin pot g = search_steps (soft_lawful L) (softened B) (soft_charges K B) (word_at (words_of state)) origin begin (at (sent_of state)) (at state.counts) pot g
 
   pub sought_begin : (m : Memory V) → length m.marks ≡ 129 → Sought m m 0
   sought_begin m len = record {
@@ -52,12 +53,12 @@ module _ {V : Type 0} {K : Kind V} (L : Lawful K) (B : Problem V) (state : State
       s = i.seeks g late new light
 
       light_new : (v : ℕ) → (soft_kind K).weight (new_of K m v) ≤ 26 * 10 ^ 10
-      light_new = all_light (soft_lawful L) (softened B) (soft_charges K B) (word_at state.words) (seen_of m₀) (new_of K m₀) (at state.sent) (at state.counts) (old_of K m₀) g _ t (new_of K m) (seen_of m) (rank_of m) (via_of m) s
+      light_new = all_light (soft_lawful L) (softened B) (soft_charges K B) (word_at (words_of state)) (seen_of m₀) (new_of K m₀) (at (sent_of state)) (at state.counts) (old_of K m₀) g _ t (new_of K m) (seen_of m) (rank_of m) (via_of m) s
 
       light_old : (v : ℕ) → (soft_kind K).weight (old_of K m v) ≤ 26 * 10 ^ 10
       light_old v = subst (λ l. (soft_kind K).weight (l v) ≤ 26 * 10 ^ 10) (sym i.old) (g.light v)
 
-      least : (v : ℕ) → seen_of m v ≡ true → nodes ≤ rank_of m v → Before (soft_kind K) (softened B) (soft_charges K B) (word_at state.words) (seen_of m₀) (new_of K m₀) (at state.sent) (at state.counts) (old_of K m₀) (new_of K m) u v
+      least : (v : ℕ) → seen_of m v ≡ true → nodes ≤ rank_of m v → Before (soft_kind K) (softened B) (soft_charges K B) (word_at (words_of state)) (seen_of m₀) (new_of K m₀) (at (sent_of state)) (at state.counts) (old_of K m₀) (new_of K m) u v
       least v sv rv =
           let b = before m (seen_of m₀) (new_of K m₀) light_new light_old u v (n.least light_old light_new v (seen_within m len v sv) (and_from _ _ sv (le-leb nodes (rank_of m v) rv))) in
           subst (λ l. AtMost (soft_kind K) ((soft_kind K).plus (new_of K m u) (l v)) ((soft_kind K).plus (new_of K m v) (l u))) i.old b
@@ -72,7 +73,7 @@ module _ {V : Type 0} {K : Kind V} (L : Lawful K) (B : Problem V) (state : State
       settled : TakingIn K B state (seen_of m₀) (new_of K m₀) (old_of K m₀) m₁ (suc t) u 0
       settled =
           let T : (ℕ → Ranked Money V) → (ℕ → Bool) → (ℕ → Option Arc) → Type 0 =
-          λ l seen via. Taking (soft_kind K) (softened B) (soft_charges K B) (word_at state.words) (seen_of m₀) (new_of K m₀) (at state.sent) (at state.counts) (old_of K m₀) (suc t) l seen (rank_of m₁) via u 0 in
+          λ l seen via. Taking (soft_kind K) (softened B) (soft_charges K B) (word_at (words_of state)) (seen_of m₀) (new_of K m₀) (at (sent_of state)) (at state.counts) (old_of K m₀) (suc t) l seen (rank_of m₁) via u 0 in
           let s₀ : T (new_of K m) (seen_of m) (via_of m) = ((steps m (seen_of m₀) (new_of K m₀) (old_of K m₀) g).settles t (new_of K m) (seen_of m) (rank_of m) (rank_of m₁) (via_of m) u s n.within parts.0 (leb-true nodes (rank_of m u) parts.1) least d.rank d.ranks).1 in
           let s₁ = subst (λ l. T l (seen_of m) (via_of m)) (sym new_same) s₀ in
           subst₂ (T (new_of K m₁)) (sym (fun_ext d.seen)) (sym (fun_ext d.via)) s₁

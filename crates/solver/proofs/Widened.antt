@@ -14,6 +14,7 @@ use Rattle.solver.specs.Flows.{Straight, Shown}
 use Rattle.solver.specs.Held.{word_at}
 use Rattle.solver.specs.Solutions.{LeastAssignment, SolvedIn}
 use Rattle.solver.proofs.Violations.{least_in_score}
+use Rattle.solver.specs.States.{sent_of}
 
 -- the first n words are those of `words`
 abbrev pub Widened : List ℕ → List ℕ → ℕ → Type 0
@@ -26,15 +27,15 @@ widened_more words now next n l e h b x lb = ⊎_elim
 
 module _ {V : Type 0} {K : Kind V} (L : Lawful K) (B : Problem V) (s : Sound K B) (straight : Straight K B) where
   -- where each word has just the open weekends, the labels show the assignment among all
-  pub shown_open : (state : State) (l : ℕ → Ranked Money V) → SolvedIn K B state l → Shown K B (is_open B) l (at state.sent) (at state.counts)
+  pub shown_open : (state : State) (l : ℕ → Ranked Money V) → SolvedIn K B state l → Shown K B (is_open B) l (at (sent_of state)) (at state.counts)
   shown_open state l x = record {
     light = x.held.light;
-    inside = record { sent = x.held.inside.sent; meets = λ b lb. sym (x.words b (at state.sent b) lb) ∙ x.held.inside.meets b lb };
+    inside = record { sent = x.held.inside.sent; meets = λ b lb. sym (x.words b (at (sent_of state) b) lb) ∙ x.held.inside.meets b lb };
     counts = x.held.counts;
     valid = record { rising = x.held.valid.rising; falling = x.held.valid.falling; moved = λ b y lb ly m. x.held.valid.moved b y lb ly (x.words b y lb ∙ m) };
   }
 
-  pub least_of_lem : (state : State) (l : ℕ → Ranked Money V) → SolvedIn K B state l → LeastAssignment K B (at state.sent)
+  pub least_of_lem : (state : State) (l : ℕ → Ranked Money V) → SolvedIn K B state l → LeastAssignment K B (at (sent_of state))
   least_of_lem state l x =
       let shown = shown_open state l x in
-      record { inside = shown.inside; least = λ q h. least_in_score L B s straight (is_open B) l (at state.sent) (at state.counts) q shown h; shown = (l, at state.counts, shown) }
+      record { inside = shown.inside; least = λ q h. least_in_score L B s straight (is_open B) l (at (sent_of state)) (at state.counts) q shown h; shown = (l, at state.counts, shown) }

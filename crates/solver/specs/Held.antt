@@ -22,6 +22,7 @@ use Rattle.solver.specs.Soft.{soft_kind, softened}
 use Rattle.solver.specs.Residual.{tail, quoted, Fits, arc_cost}
 use Rattle.solver.specs.Search.{nodes, Searchable, Seeks}
 use Rattle.solver.specs.Flows.{soft_charges, Shown, Taking, SearchEnded}
+use Rattle.solver.specs.States.{sent_of, words_of}
 
 module _ {V : Type 0} (K : Kind V) where
   -- the label at a place: violations from one list, the amount from another
@@ -157,20 +158,20 @@ Stands B spot = (spot.weekend < B.weekends) × (spot.class < B.classes)
 module _ {V : Type 0} (K : Kind V) (B : Problem V) (state : State) where
   -- what a search over this state asks for, from the given origins and with the given valid labels
   abbrev pub SearchableIn : (ℕ → Bool) → (ℕ → Ranked Money V) → (ℕ → Ranked Money V) → Type 0
-  SearchableIn origin begin pot = Searchable (soft_kind K) (softened B) (soft_charges K B) (word_at state.words) origin begin (at state.sent) (at state.counts) pot
+  SearchableIn origin begin pot = Searchable (soft_kind K) (softened B) (soft_charges K B) (word_at (words_of state)) origin begin (at (sent_of state)) (at state.counts) pot
 
   -- t nodes are settled, u the last of them, and its arcs before stage s are taken
   abbrev pub TakingIn : (ℕ → Bool) → (ℕ → Ranked Money V) → (ℕ → Ranked Money V) → Memory V → ℕ → ℕ → ℕ → Type 0
   TakingIn origin begin pot m t u s =
-      Taking (soft_kind K) (softened B) (soft_charges K B) (word_at state.words) origin begin (at state.sent) (at state.counts) pot t (new_of K m) (seen_of m) (rank_of m) (via_of m) u s
+      Taking (soft_kind K) (softened B) (soft_charges K B) (word_at (words_of state)) origin begin (at (sent_of state)) (at state.counts) pot t (new_of K m) (seen_of m) (rank_of m) (via_of m) u s
 
   -- t nodes are settled, and all their arcs are taken
   abbrev pub SeeksIn : (ℕ → Bool) → (ℕ → Ranked Money V) → (ℕ → Ranked Money V) → Memory V → ℕ → Type 0
-  SeeksIn origin begin pot m t = Seeks (soft_kind K) (softened B) (soft_charges K B) (word_at state.words) origin begin (at state.sent) (at state.counts) pot t (new_of K m) (seen_of m) (rank_of m) (via_of m)
+  SeeksIn origin begin pot m t = Seeks (soft_kind K) (softened B) (soft_charges K B) (word_at (words_of state)) origin begin (at (sent_of state)) (at state.counts) pot t (new_of K m) (seen_of m) (rank_of m) (via_of m)
 
   -- what an arc offers to the node that it leads to
   abbrev pub offer_in : Memory V → Arc → Ranked Money V
-  offer_in m a = (soft_kind K).plus (new_of K m (tail (softened B) (at state.sent) a)) (arc_cost (soft_kind K) (softened B) (soft_charges K B) (at state.sent) (at state.counts) a)
+  offer_in m a = (soft_kind K).plus (new_of K m (tail (softened B) (at (sent_of state)) a)) (arc_cost (soft_kind K) (softened B) (soft_charges K B) (at (sent_of state)) (at state.counts) a)
 
   -- the arcs out of u from stage s to before stage s' were taken, whatever search is going on
   pub record Relaxes (before after : Memory V) (u s s' : ℕ) : Type 0 where
@@ -185,10 +186,10 @@ pub record Searches {V : Type 0} (K : Kind V) (B : Problem V) (state : State) (b
 
 -- the labels l show that the state is least among all assignments inside its words
 abbrev pub ShownIn : {V : Type 0} → Kind V → Problem V → State → (ℕ → Ranked Money V) → Type 0
-ShownIn K B state l = Shown K B (word_at state.words) l (at state.sent) (at state.counts)
+ShownIn K B state l = Shown K B (word_at (words_of state)) l (at (sent_of state)) (at state.counts)
 
 -- A search from the class of the book b at the weekends of the word `into`, each with its quote for a first label, has ended: b may be taken to one of them, back along the arcs by which nodes were reached
 pub record Walkable {V : Type 0} (K : Kind V) (B : Problem V) (state : State) (m : Memory V) (b into : ℕ) : Type 0 where
   pub book : b < B.books
   pub fits : Fits (soft_kind K) (softened B) (soft_charges K B)
-  pub ended : SearchEnded (soft_kind K) (softened B) (soft_charges K B) (word_at state.words) (bit_at into) (quoted (soft_kind K) (softened B) b) (new_of K m) (rank_of m) (via_of m) (at state.sent) (at state.counts) b
+  pub ended : SearchEnded (soft_kind K) (softened B) (soft_charges K B) (word_at (words_of state)) (bit_at into) (quoted (soft_kind K) (softened B) b) (new_of K m) (rank_of m) (via_of m) (at (sent_of state)) (at state.counts) b

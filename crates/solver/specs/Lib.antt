@@ -4,6 +4,7 @@ pub mod Residual
 pub mod Search
 pub mod Walk
 pub mod Flows
+pub mod States
 pub mod Choosing
 pub mod Held
 pub mod Starting

@@ -14,6 +14,7 @@ use Rattle.solver.specs.Residual.{Inside}
 use Rattle.solver.specs.Search.{nodes}
 use Rattle.solver.specs.Flows.{Shown}
 use Rattle.solver.specs.Held.{word_at, ShownIn}
+use Rattle.solver.specs.States.{words_of}
 
 module _ {V : Type 0} (K : Kind V) (B : Problem V) where
   -- p sends each book to a weekend where it is open; no such assignment has fewer violations, or as many and a smaller total; and there are labels that show it
@@ -31,5 +32,5 @@ module _ {V : Type 0} (K : Kind V) (B : Problem V) where
   -- the labels l show the state least among all assignments: each book may go wherever it is open; and no label is more than zero
   pub record SolvedIn (state : State) (l : ℕ → Ranked Money V) : Type 0 where
     pub held : ShownIn K B state l
-    pub words : (b x : ℕ) → b < B.books → word_at state.words b x ≡ is_open B b x
+    pub words : (b x : ℕ) → b < B.books → word_at (words_of state) b x ≡ is_open B b x
     pub low : (v : ℕ) → v < nodes → AtMost (soft_kind K) (l v) (soft_kind K).none

@@ -1,9 +1,10 @@
 // The walk that takes a book to its new place, back along the arcs by which a search reached the nodes.
-ghost use Rattle.std.specs.Prelude.{◌≡◌, ◌<◌, ◌≤◌, length, slice_set};
+ghost use Rattle.std.specs.Prelude.{◌≡◌, ◌<◌, slice_set};
 ghost use Rattle.plans.specs.Places.{at};
 ghost use Rattle.solver.specs.Residual.{tail};
 ghost use Rattle.solver.specs.Held.{memory_of, old_of, posed_by, ShownIn, via_of, Walkable};
-ghost use Rattle.solver.specs.Undone.{Undoable, HasPlace, undone, placed};
+ghost use Rattle.solver.specs.Undone.{Put, Undoable, Undone};
+ghost use Rattle.solver.specs.States.{sent_of, words_of};
 
 use crate::arcs::Arc;
 use crate::graph::Graph;
@@ -24,22 +25,20 @@ impl<'a, X: Amount> Labels<'a, X> {
 }
 
 // Puts the book at the weekend, and gives it its new word.
-fn place(state: &mut State, book: usize, weekend: usize, into: u16)
+fn put(state: &mut State, book: usize, weekend: usize, into: u16)
     requires { (book < 120) × (weekend < 16) }
-    ensures places { (book < length state.old.sent) × (book < length state.old.words) }
-    ensures after { state.new ≡ placed state.old book weekend into }
+    ensures { Put state.old state.new book weekend into }
 {
-    state.sent[book] = weekend as u8;
-    state.words[book] = into;
+    state.send(book, weekend);
+    state.widen(book, into);
 }
 
 impl<'a, S: Source> Graph<'a, S> {
     // Undoes the arc that leads to the hole, and answers the node that it comes from: the hole is there now.
     fn undo(&self, state: &mut State, arc: Arc) -> usize
         requires { Undoable self.now.roster.now.classes state.old arc }
-        ensures next { result ≡ tail (posed_by S.Source S.Quote.Amount.kind self.now) (at state.old.sent) arc }
-        ensures place { HasPlace state.old arc }
-        ensures after { state.new ≡ undone state.old arc }
+        ensures next { result ≡ tail (posed_by S.Source S.Quote.Amount.kind self.now) (at (sent_of state.old)) arc }
+        ensures after { Undone state.old state.new arc }
     {
         match arc {
             Arc::Rise(weekend, class) => {
@@ -54,7 +53,7 @@ impl<'a, S: Source> Graph<'a, S> {
             }
             Arc::Move(book, weekend) => {
                 let from = state.spot_of(self.roster, book);
-                state.sent[book] = weekend as u8;
+                state.send(book, weekend);
                 from.node()
             }
         }
@@ -72,14 +71,13 @@ impl<'a, S: Source> Graph<'a, S> {
     )
         requires { Walkable S.Quote.Amount.kind (posed_by S.Source S.Quote.Amount.kind self.now) state.old (memory_of labels.old) book into }
         ensures shown { ShownIn S.Quote.Amount.kind (posed_by S.Source S.Quote.Amount.kind self.now) state.new (old_of S.Quote.Amount.kind (memory_of labels.new)) }
-        ensures words { state.new.words ≡ slice_set state.old.words book into }
-        ensures place { book < length state.old.words }
+        ensures words { (words_of state.new) ≡ slice_set (words_of state.old) book into }
     {
         let mut hole = state.spot_of(self.roster, book).node();
         while let Some(arc) = labels.reached_by(hole) {
             hole = self.undo(state, arc);
         }
-        place(state, book, Spot::of(hole).weekend, into);
+        put(state, book, Spot::of(hole).weekend, into);
         labels.adopt();
     }
 }

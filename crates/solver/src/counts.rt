@@ -1,5 +1,5 @@
 // How many members of each class go to each weekend, as books are sent one by one.
-ghost use Rattle.std.specs.Prelude.{◌≡◌, ℕ, ◌+◌, ◌<◌, ◌≤◌, ◌&&◌, ◌==◌};
+ghost use Rattle.std.specs.Prelude.{◌≡◌, ℕ, ◌+◌, ◌<◌, ◌≤◌, ◌&&◌, ◌==◌, length};
 ghost use Rattle.amounts.specs.Sums.{bit};
 ghost use Rattle.plans.specs.Places.{at};
 ghost use Rattle.plans.specs.Posed.{is_member};
@@ -27,7 +27,8 @@ fn enter_class(counts: &mut [usize; 128], roster: &Roster, spot: Spot)
 pub(crate) fn enter(counts: &mut [usize; 128], roster: &Roster, book: usize, weekend: usize)
     requires near { weekend < 16 }
     requires room { (c : ℕ) → c < 8 → at counts.old (node weekend c) ≤ 120 }
-    ensures { (w c : ℕ) → c < 8 → at counts.new (node w c) ≡ at counts.old (node w c) + bit (weekend == w && is_member roster.now book c) }
+    ensures long { length counts.new ≡ 128 }
+    ensures more { (w c : ℕ) → c < 8 → at counts.new (node w c) ≡ at counts.old (node w c) + bit (weekend == w && is_member roster.now book c) }
 {
     let class = roster.class_of(book);
     enter_class(counts, roster, Spot { weekend, class });

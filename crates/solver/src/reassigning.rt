@@ -1,10 +1,11 @@
 // One book is given other weekends to go to, and taken to where that is best; and labels are found anew.
-ghost use Rattle.std.specs.Prelude.{◌≡◌, ℕ, ◌<◌, true, length, slice_set};
+ghost use Rattle.std.specs.Prelude.{◌≡◌, ℕ, ◌<◌, true, slice_set};
 ghost use Rattle.amounts.specs.Kind.{AtMost};
 ghost use Rattle.sources.specs.Tables.{bit_at};
 ghost use Rattle.plans.specs.Theorems.{Sound};
 ghost use Rattle.solver.specs.Soft.{soft_kind};
 ghost use Rattle.solver.specs.Held.{memory_of, old_of, posed_by, ShownIn};
+ghost use Rattle.solver.specs.States.{words_of};
 
 use crate::graph::{Graph, Residual};
 use crate::labels::Labels;
@@ -12,17 +13,6 @@ use crate::marks::Mark;
 use crate::state::State;
 use amounts::Amount;
 use sources::Source;
-
-// Gives a book its word.
-fn widen(state: &mut State, book: usize, into: u16)
-    requires { book < 120 }
-    ensures sent { state.new.sent ≡ state.old.sent }
-    ensures counts { state.new.counts ≡ state.old.counts }
-    ensures words { state.new.words ≡ slice_set state.old.words book into }
-    ensures place { book < length state.old.words }
-{
-    state.words[book] = into;
-}
 
 impl<'a, S: Source> Graph<'a, S> {
     // Lets a book go to the weekends of a word. The labels show that the assignment is least among those inside the words, before and after.
@@ -38,15 +28,14 @@ impl<'a, S: Source> Graph<'a, S> {
         requires sound { Sound S.Quote.Amount.kind (posed_by S.Source S.Quote.Amount.kind self.now) }
         requires shown { ShownIn S.Quote.Amount.kind (posed_by S.Source S.Quote.Amount.kind self.now) state.old (old_of S.Quote.Amount.kind (memory_of labels.old)) }
         ensures shown { ShownIn S.Quote.Amount.kind (posed_by S.Source S.Quote.Amount.kind self.now) state.new (old_of S.Quote.Amount.kind (memory_of labels.new)) }
-        ensures words { state.new.words ≡ slice_set state.old.words book into }
-        ensures place { book < length state.old.words }
+        ensures words { (words_of state.new) ≡ slice_set (words_of state.old) book into }
     {
         let residual = Residual {
             graph: &*self,
             state: &*state,
         };
         if residual.stays(labels, book, into) {
-            widen(state, book, into);
+            state.widen(book, into);
             return;
         }
         self.start_at(labels, book, into);

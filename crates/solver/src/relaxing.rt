@@ -6,6 +6,7 @@ ghost use Rattle.sources.specs.Tables.{bit_at};
 ghost use Rattle.solver.specs.Soft.{soft_kind, behind};
 ghost use Rattle.solver.specs.Residual.{node as the_node, above as the_above};
 ghost use Rattle.solver.specs.Held.{memory_of, posed_by, Relaxes, Stands};
+ghost use Rattle.solver.specs.States.{sent_of, words_of};
 
 use crate::arcs::Arc;
 use crate::graph::{Graph, Residual};
@@ -91,11 +92,11 @@ impl<'a, S: Source> Residual<'a, S> {
         leaving: Ranked<Money, S::Quote>,
     )
         requires book { book < S.Source.count self.now.graph.now.source.now }
-        requires sent { at self.now.state.now.sent book < S.Source.weeks self.now.graph.now.source.now }
+        requires sent { at (sent_of self.now.state.now) book < S.Source.weeks self.now.graph.now.source.now }
         requires weekend { weekend < S.Source.weeks self.now.graph.now.source.now }
-        requires allowed { bit_at (slice_index self.now.state.now.words book) weekend ≡ true }
-        requires leaving { leaving ≡ (soft_kind S.Quote.Amount.kind).minus (or_none (soft_kind S.Quote.Amount.kind) (behind (S.Source.table self.now.graph.now.source.now book (at self.now.state.now.sent book)))) }
-        ensures { Relaxes S.Quote.Amount.kind (posed_by S.Source S.Quote.Amount.kind self.now.graph.now) self.now.state.now (memory_of labels.old) (memory_of labels.new) (the_node (at self.now.state.now.sent book) (at self.now.graph.now.roster.now.homes book)) (129 + (book * 16 + weekend)) (130 + (book * 16 + weekend)) }
+        requires allowed { bit_at (slice_index (words_of self.now.state.now) book) weekend ≡ true }
+        requires leaving { leaving ≡ (soft_kind S.Quote.Amount.kind).minus (or_none (soft_kind S.Quote.Amount.kind) (behind (S.Source.table self.now.graph.now.source.now book (at (sent_of self.now.state.now) book)))) }
+        ensures { Relaxes S.Quote.Amount.kind (posed_by S.Source S.Quote.Amount.kind self.now.graph.now) self.now.state.now (memory_of labels.old) (memory_of labels.new) (the_node (at (sent_of self.now.state.now) book) (at self.now.graph.now.roster.now.homes book)) (129 + (book * 16 + weekend)) (130 + (book * 16 + weekend)) }
     {
         let from = self.state.spot_of(self.graph.roster, book);
         let class = from.class;
@@ -108,11 +109,11 @@ impl<'a, S: Source> Residual<'a, S> {
     // The moves of a book to the weekends of its word.
     fn take_moves_of(&self, labels: &mut Labels<'_, S::Quote>, book: usize)
         requires book { book < S.Source.count self.now.graph.now.source.now }
-        requires sent { at self.now.state.now.sent book < S.Source.weeks self.now.graph.now.source.now }
-        ensures { Relaxes S.Quote.Amount.kind (posed_by S.Source S.Quote.Amount.kind self.now.graph.now) self.now.state.now (memory_of labels.old) (memory_of labels.new) (the_node (at self.now.state.now.sent book) (at self.now.graph.now.roster.now.homes book)) (129 + book * 16) (129 + (book + 1) * 16) }
+        requires sent { at (sent_of self.now.state.now) book < S.Source.weeks self.now.graph.now.source.now }
+        ensures { Relaxes S.Quote.Amount.kind (posed_by S.Source S.Quote.Amount.kind self.now.graph.now) self.now.state.now (memory_of labels.old) (memory_of labels.new) (the_node (at (sent_of self.now.state.now) book) (at self.now.graph.now.roster.now.homes book)) (129 + book * 16) (129 + (book + 1) * 16) }
     {
-        let word = self.state.words[book];
-        let from = usize::from(self.state.sent[book]);
+        let word = self.state.word_of(book);
+        let from = self.state.weekend_of(book);
         let leaving = self.graph.soft_quote(book, from).opposite();
         for weekend in 0..self.graph.source.weekends() {
             if has(word, weekend) {
@@ -124,10 +125,10 @@ impl<'a, S: Source> Residual<'a, S> {
     // Is the book at the spot?
     fn stands_at(&self, book: usize, spot: Spot) -> bool
         requires { book < 120 }
-        ensures { result ≡ (at self.now.state.now.sent book == spot.weekend && at self.now.graph.now.roster.now.homes book == spot.class) }
+        ensures { result ≡ (at (sent_of self.now.state.now) book == spot.weekend && at self.now.graph.now.roster.now.homes book == spot.class) }
     {
-        let weekend = usize::from(self.state.sent[book]);
-        weekend == spot.weekend && self.graph.roster.class_of(book) == spot.class
+        self.state.weekend_of(book) == spot.weekend
+            && self.graph.roster.class_of(book) == spot.class
     }
 
     // The moves of the books that are at a spot.

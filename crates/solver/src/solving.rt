@@ -7,6 +7,7 @@ ghost use Rattle.plans.specs.Sheets.{stranded};
 ghost use Rattle.solver.specs.Soft.{soft_kind};
 ghost use Rattle.solver.specs.Held.{memory_of, old_of, word_at, posed_by, ShownIn};
 ghost use Rattle.solver.specs.Solutions.{SolutionRight, SolvedIn};
+ghost use Rattle.solver.specs.States.{words_of};
 
 use crate::graph::{Graph, Residual};
 use crate::labels::{Labels, clear_all};
@@ -28,7 +29,7 @@ impl<'a, S: Source> Graph<'a, S> {
         requires some { (b : ℕ) → b < S.Source.count self.now.source.now → (x : ℕ) × (x < S.Source.weeks self.now.source.now) × (word_at words.now b x ≡ true) }
         requires shown { ShownIn S.Quote.Amount.kind (posed_by S.Source S.Quote.Amount.kind self.now) state.old (old_of S.Quote.Amount.kind (memory_of labels.old)) }
         ensures shown { ShownIn S.Quote.Amount.kind (posed_by S.Source S.Quote.Amount.kind self.now) state.new (old_of S.Quote.Amount.kind (memory_of labels.new)) }
-        ensures words { (b x : ℕ) → b < S.Source.count self.now.source.now → word_at state.new.words b x ≡ word_at words.now b x }
+        ensures words { (b x : ℕ) → b < S.Source.count self.now.source.now → word_at (words_of state.new) b x ≡ word_at words.now b x }
     {
         for (book, word) in words[..self.source.books()].iter().enumerate() {
             self.reassign(state, labels, book, *word);
@@ -82,5 +83,5 @@ pub fn solve<'a, S: Source>(
     let found = graph.least_state(&mut Labels::over(&mut *work));
     clear_all(work);
     let state = found.ok_or(Unsolved::Stranded)?;
-    Ok(state.sent)
+    Ok(state.weekends())
 }

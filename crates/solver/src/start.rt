@@ -8,6 +8,7 @@ ghost use Rattle.plans.specs.Sheets.{stranded};
 ghost use Rattle.solver.specs.Residual.{node};
 ghost use Rattle.solver.specs.Held.{word_at};
 ghost use Rattle.solver.specs.Starting.{Found, Begun};
+ghost use Rattle.solver.specs.States.{sent_of, words_of};
 
 use crate::choices::{Choice, cheaper};
 use crate::counts::enter;
@@ -91,12 +92,12 @@ fn place(state: &mut State, roster: &Roster, book: usize, weekend: usize)
     requires near { weekend < 16 }
     requires within { book < 120 }
     requires room { (c : ℕ) → c < 8 → at state.old.counts (node weekend c) ≤ 120 }
-    ensures sent { state.new.sent ≡ slice_set state.old.sent book weekend }
-    ensures words { state.new.words ≡ slice_set state.old.words book (2 ^ weekend) }
+    ensures sent { (sent_of state.new) ≡ slice_set (sent_of state.old) book weekend }
+    ensures words { (words_of state.new) ≡ slice_set (words_of state.old) book (2 ^ weekend) }
     ensures counts { (w c : ℕ) → c < 8 → at state.new.counts (node w c) ≡ at state.old.counts (node w c) + bit (weekend == w && is_member roster.now book c) }
 {
-    state.sent[book] = weekend as u8;
-    state.words[book] = 1 << weekend;
+    state.send(book, weekend);
+    state.widen(book, 1 << weekend);
     enter(&mut state.counts, roster, book, weekend);
 }
 
@@ -110,11 +111,7 @@ pub(crate) fn first_state<S: Source>(
     requires { (b w : ℕ) → word_at words.now b w ≡ is_some (S.Source.table source.now b w) }
     ensures { MatchOption result (stranded (S.Source.count source.now) (S.Source.weeks source.now) (S.Source.table source.now) ≡ true) (Begun (meaning S.Source source.now) roster.now) }
 {
-    let mut state = State {
-        sent: [0; 120],
-        counts: [0; 128],
-        words: [0; 120],
-    };
+    let mut state = State::empty();
     for (book, word) in words[..source.books()].iter().enumerate() {
         let best = cheapest(source, roster, bounds, &state.counts, *word, book)?;
         place(&mut state, roster, book, best.place);

@@ -5,6 +5,7 @@ ghost use Rattle.plans.specs.Places.{at};
 ghost use Rattle.solver.specs.Soft.{soft_kind, behind};
 ghost use Rattle.solver.specs.Held.{memory_of, old_of, posed_by};
 ghost use Rattle.solver.specs.Reassigning.{Started, Stays, stays_by};
+ghost use Rattle.solver.specs.States.{sent_of};
 
 use crate::graph::{Graph, Residual};
 use crate::labels::Labels;
@@ -40,9 +41,9 @@ impl<'a, S: Source> Residual<'a, S> {
         leaving: Ranked<Money, S::Quote>,
     ) -> bool
         requires book { book < S.Source.count self.now.graph.now.source.now }
-        requires sent { at self.now.state.now.sent book < S.Source.weeks self.now.graph.now.source.now }
+        requires sent { at (sent_of self.now.state.now) book < S.Source.weeks self.now.graph.now.source.now }
         requires weekend { weekend < S.Source.weeks self.now.graph.now.source.now }
-        requires leaving { leaving ≡ (soft_kind S.Quote.Amount.kind).minus (or_none (soft_kind S.Quote.Amount.kind) (behind (S.Source.table self.now.graph.now.source.now book (at self.now.state.now.sent book)))) }
+        requires leaving { leaving ≡ (soft_kind S.Quote.Amount.kind).minus (or_none (soft_kind S.Quote.Amount.kind) (behind (S.Source.table self.now.graph.now.source.now book (at (sent_of self.now.state.now) book)))) }
         ensures value { result ≡ stays_by S.Quote.Amount.kind (posed_by S.Source S.Quote.Amount.kind self.now.graph.now) self.now.state.now (old_of S.Quote.Amount.kind (memory_of labels.old)) book weekend }
         ensures same { memory_of labels.new ≡ memory_of labels.old }
     {
@@ -57,11 +58,11 @@ impl<'a, S: Source> Residual<'a, S> {
     // May the book stay where it is, and the labels stay as they are, where it may go to the weekends of the word `into`?
     pub(crate) fn stays(&self, labels: &mut Labels<'_, S::Quote>, book: usize, into: u16) -> bool
         requires book { book < S.Source.count self.now.graph.now.source.now }
-        requires sent { at self.now.state.now.sent book < S.Source.weeks self.now.graph.now.source.now }
+        requires sent { at (sent_of self.now.state.now) book < S.Source.weeks self.now.graph.now.source.now }
         ensures stays { result ≡ true → Stays S.Quote.Amount.kind (posed_by S.Source S.Quote.Amount.kind self.now.graph.now) self.now.state.now (old_of S.Quote.Amount.kind (memory_of labels.old)) book into }
         ensures same { memory_of labels.new ≡ memory_of labels.old }
     {
-        let from = usize::from(self.state.sent[book]);
+        let from = self.state.weekend_of(book);
         if !has(into, from) {
             return false;
         }

@@ -1,12 +1,12 @@
-use Rattle.std.proofs.Common.{refl, subst, arith}
+use Rattle.std.proofs.Common.{subst, arith}
 use Rattle.std.proofs.lemmas.List.{length-take}
 use Rattle.plans.specs.Posed.{meaning}
 use Rattle.solver.specs.Starting.{Found}
-use Rattle.solver.proofs.Placing.{none_open, placed_none, placed_room, placed_more, still_long}
+use Rattle.solver.proofs.Placing.{none_open, placed_none, placed_room, placed_more}
 use Rattle.solver.proofs.start.first_state.Goals as goal
 
 pub loop-book-init : goal.loop-book-init
-loop-book-init g c = (placed_none (meaning g.S.Source c.args.source.now) c.args.roster.now 120 128 120, refl, refl)
+loop-book-init g c = placed_none (meaning g.S.Source c.args.source.now) c.args.roster.now _ c.empty-state.ensures.words c.empty-state.ensures.counts
 
 pub returns-in_err-best : goal.returns-in_err-best
 returns-in_err-best g c =
@@ -27,7 +27,7 @@ place-requires g c =
     record {
       near = omega (arith, found.0);
       within = omega arith;
-      room = placed_room (meaning g.S.Source s) c.args.roster.now c.loop-book.book c.loop-book.state c.loop-book.invariant.0 c.in_ok-best.best.place (omega arith) (omega (arith, found.0));
+      room = placed_room (meaning g.S.Source s) c.args.roster.now c.loop-book.book c.loop-book.state c.loop-book.invariant c.in_ok-best.best.place (omega arith) (omega (arith, found.0));
     }
 
 pub loop-book-preserved : goal.loop-book-preserved
@@ -37,10 +37,5 @@ loop-book-preserved g c =
     let long = length-take c.books.result c.args.words.now in
     let few = g.S.Source.ranges.few_books s in
     let found = subst (Found (g.S.Source.table s c.loop-book.book) (g.S.Source.weeks s)) c.in_ok-best.was c.cheapest.ensures in
-    let before = c.loop-book.state in
-    let after = c.place.new.state in (
-      placed_more (meaning g.S.Source s) c.args.roster.now c.loop-book.book before c.loop-book.invariant.0 c.in_ok-best.best.place
-          after (omega arith) (omega arith) c.place.ensures.sent c.place.ensures.words found.0 found.1 c.place.ensures.counts,
-      still_long 120 before.sent after.sent c.loop-book.book _ c.place.ensures.sent c.loop-book.invariant.1,
-      still_long 120 before.words after.words c.loop-book.book _ c.place.ensures.words c.loop-book.invariant.2,
-    )
+    placed_more (meaning g.S.Source s) c.args.roster.now c.loop-book.book c.loop-book.state c.loop-book.invariant c.in_ok-best.best.place
+    c.place.new.state (omega arith) c.place.ensures.sent c.place.ensures.words found.0 found.1 c.place.ensures.counts

@@ -1,4 +1,4 @@
-use Rattle.std.proofs.Common.{length, set, sym, ap, ◌∙◌, subst, arith}
+use Rattle.std.proofs.Common.{set, sym, ap, ◌∙◌, subst, arith}
 use Rattle.solver.specs.Held.{ShownIn}
 use Rattle.solver.proofs.Augmented.{undoable, Step, step, start_weekend, shown}
 use Rattle.solver.proofs.graph.Graph.augment.Given as given
@@ -11,7 +11,7 @@ undo-hole-requires g c = undoable g.met.S.Quote.Amount.lawful _ _ _ _ _ c.requir
 turn : (g : given.Over) (c : goal.After-undo-hole g) → Step g.met.S.Quote.Amount.lawful _ _ _ _ _ c.requires c.loop-arc.state c.undo-hole.new.state c.loop-arc.hole c.undo-hole.result
 turn g c =
     let o = c.undo-hole.ensures in
-    step g.met.S.Quote.Amount.lawful _ _ _ _ _ c.requires _ _ _ _ c.in-Some.arc c.loop-arc.invariant.0 c.in-Some.ensures o.place o.next o.after
+    step g.met.S.Quote.Amount.lawful _ _ _ _ _ c.requires _ _ _ _ c.in-Some.arc c.loop-arc.invariant.0 c.in-Some.ensures o.next o.after
 
 pub loop-arc-smaller : goal.loop-arc-smaller
 loop-arc-smaller g c = (turn g c).less
@@ -22,15 +22,14 @@ loop-arc-preserved g c = let s = turn g c in (s.walks, s.words ∙ c.loop-arc.in
 pub of-requires : goal.of-requires
 of-requires g c = omega (arith, start_weekend g.met.S.Quote.Amount.lawful _ _ _ _ _ c.requires _ _ c.loop-arc.invariant.0 c.in_default.ensures)
 
-pub place-requires : goal.place-requires
-place-requires g c = (omega (arith, c.requires.book, c.requires.fits.sound.books), c.of.result.near)
+pub put-requires : goal.put-requires
+put-requires g c = (omega (arith, c.requires.book, c.requires.fits.sound.books), c.of.result.near)
 
 pub returns : goal.returns
 returns g c =
     let i = c.loop-arc.invariant in
-    let o = c.place.ensures in
+    let o = c.put.ensures in
     record {
-      shown = subst (ShownIn g.S.Quote.Amount.kind _ c.place.new.state) (sym c.adopt.ensures) (shown g.met.S.Quote.Amount.lawful _ _ _ _ _ c.requires _ _ _ i.0 c.in_default.ensures o.places.0 o.places.1 (rw (← c.of.ensures.weekend) o.after));
-      words = ap (λ s. s.words) o.after ∙ ap (λ w. set w c.args.book c.args.into) i.1;
-      place = omega (arith, o.places.1, ap length i.1);
+      shown = subst (ShownIn g.S.Quote.Amount.kind _ c.put.new.state) (sym c.adopt.ensures) (shown g.met.S.Quote.Amount.lawful _ _ _ _ _ c.requires _ _ _ i.0 c.in_default.ensures (rw (← c.of.ensures.weekend) o));
+      words = o.1 ∙ ap (λ w. set w c.args.book c.args.into) i.1;
     }

@@ -11,9 +11,8 @@ returns-then-stays g c =
     let e = c.if-stays.ensures in
     let w = c.widen.ensures in
     record {
-      shown = stay_shown g.met.S.Quote.Amount.lawful B c.requires.sound c.args.state.now c.widen.new.state (old_of K (memory_of c.args.labels.now)) _ c.args.book c.args.into c.requires.book w.place c.requires.shown (e.stays refl) w.sent w.counts w.words (ap (old_of K) e.same);
+      shown = stay_shown g.met.S.Quote.Amount.lawful B c.requires.sound c.args.state.now c.widen.new.self (old_of K (memory_of c.args.labels.now)) _ c.args.book c.args.into c.requires.book c.requires.shown (e.stays refl) w.sent w.counts w.words (ap (old_of K) e.same);
       words = w.words;
-      place = w.place;
     }
 
 pub augment-requires : goal.augment-requires

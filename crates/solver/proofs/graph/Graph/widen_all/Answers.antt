@@ -1,8 +1,10 @@
 use Rattle.std.proofs.Common.{◌<◌, set, ap, ◌∙◌, not-suc-le-zero, arith}
 use Rattle.std.proofs.lemmas.List.{length-take, get_or-take}
 use Rattle.sources.specs.Tables.{bit_at}
+use Rattle.solver.proofs.Stated.{words_long}
 use Rattle.solver.proofs.Widened.{widened_more}
 use Rattle.solver.proofs.graph.Graph.widen_all.Goals as goal
+use Rattle.solver.specs.States.{words_of}
 
 pub loop-book-init : goal.loop-book-init
 loop-book-init g c = (c.requires.shown, λ b x h. absurd (not-suc-le-zero h))
@@ -22,7 +24,7 @@ pub loop-book-preserved : goal.loop-book-preserved
 loop-book-preserved g c =
     let r = c.reassign.ensures in
     let word = get_or-take c.books.result c.args.words.now c.loop-book.book 0 (omega (arith, length-take c.books.result c.args.words.now)) in
-    (r.shown, widened_more c.args.words.now c.loop-book.state.words _ c.loop-book.book r.place (r.words ∙ ap (set c.loop-book.state.words c.loop-book.book) word) c.loop-book.invariant.1)
+    (r.shown, widened_more c.args.words.now (words_of c.loop-book.state) _ c.loop-book.book (omega (arith, c.books.ensures, length-take c.books.result c.args.words.now, words_long c.loop-book.state, g.S.Source.ranges.few_books c.args.self.now.source.now)) (r.words ∙ ap (set (words_of c.loop-book.state) c.loop-book.book) word) c.loop-book.invariant.1)
 
 pub returns : goal.returns
 returns g c =

@@ -23,7 +23,7 @@ stays_by-requires g c =
       book = c.requires.book;
       sent = c.requires.sent;
       weekend = omega (arith, c.weekends-weekend-end.ensures);
-      leaving = c.opposite-leaving.ensures ∙ ap (soft_kind K).minus (c.soft_quote.ensures ∙ ap (λ y. or_none (soft_kind K) (behind (table c.args.book y))) c.from-from.ensures);
+      leaving = c.opposite-leaving.ensures ∙ ap (soft_kind K).minus (c.soft_quote.ensures ∙ ap (λ y. or_none (soft_kind K) (behind (table c.args.book y))) c.weekend_of-from.ensures);
     }
 
 pub returns-then-not-stays_by : goal.returns-then-not-stays_by
@@ -50,7 +50,7 @@ pub returns : goal.returns
 returns g c =
     let B = posed_by g.S.Source g.S.Quote.Amount.kind c.args.self.now.graph.now in
     let i = c.loop-weekend.invariant in
-    let own = ap (bit_at c.args.into) (sym c.from-from.ensures) ∙ sym c.if-not-has.ensures in
+    let own = ap (bit_at c.args.into) (sym c.weekend_of-from.ensures) ∙ sym c.if-not-has.ensures in
     record {
       stays = λ _. tried_all g.met.S.Quote.Amount.lawful B c.args.self.now.state.now _ c.args.book c.args.into c.loop-weekend.weekend (omega (arith, c.weekends-weekend-end.ensures, c.loop-weekend-test.false)) c.requires.book c.requires.sent own i.0;
       same = i.1;

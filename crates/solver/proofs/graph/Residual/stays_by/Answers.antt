@@ -7,6 +7,7 @@ use Rattle.solver.specs.Soft.{soft_kind, softened}
 use Rattle.solver.specs.Held.{posed_by, memory_of}
 use Rattle.solver.proofs.Beginning.{read_old}
 use Rattle.solver.proofs.graph.Residual.stays_by.Goals as goal
+use Rattle.solver.specs.States.{sent_of}
 
 pub returns : goal.returns
 returns g c =
@@ -14,7 +15,7 @@ returns g c =
     let B = posed_by g.S.Source K c.args.self.now.graph.now in
     let b = c.args.book in
     let x = c.args.weekend in
-    let y = at c.args.self.now.state.now.sent b in
+    let y = at (sent_of c.args.self.now.state.now) b in
     let m = memory_of c.args.labels.now in
     let r = c.read-2.ensures in
     let t = c.read.ensures in

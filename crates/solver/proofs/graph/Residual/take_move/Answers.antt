@@ -7,6 +7,7 @@ use Rattle.solver.specs.Soft.{soft_kind, softened}
 use Rattle.solver.specs.Held.{posed_by, memory_of}
 use Rattle.solver.proofs.Relaxed.{relaxes_arc, read_new}
 use Rattle.solver.proofs.graph.Residual.take_move.Goals as goal
+use Rattle.solver.specs.States.{sent_of}
 
 pub returns : goal.returns
 returns g c =
@@ -15,7 +16,7 @@ returns g c =
     let state = c.args.self.now.state.now in
     let b = c.args.book in
     let x = c.args.weekend in
-    let y = at state.sent b in
+    let y = at (sent_of state) b in
     let m = memory_of c.args.labels.now in
     let r = c.read.ensures in
     let at_book = c.spot_of-from.ensures in

@@ -6,6 +6,7 @@ use Rattle.solver.specs.Held.{posed_by, memory_of, Relaxes}
 use Rattle.solver.proofs.Sweeping.{moves_begin, moves_skip, moves_take, moves_end}
 use Rattle.solver.proofs.graph.Residual.take_moves.Goals as goal
 use Rattle.solver.proofs.graph.Residual.take_moves.Goals.{then-stands_at, else-stands_at}
+use Rattle.solver.specs.States.{sent_of}
 
 pub loop-book-init : goal.loop-book-init
 loop-book-init g c =
@@ -14,7 +15,7 @@ loop-book-init g c =
 
 pub take_moves_of-requires : goal.take_moves_of-requires
 take_moves_of-requires g c =
-    let here = eqb-true (at c.args.self.now.state.now.sent c.loop-book.book) c.args.spot.weekend (and_parts _ _ (sym c.if-stands_at.ensures)).0 in
+    let here = eqb-true (at (sent_of c.args.self.now.state.now) c.loop-book.book) c.args.spot.weekend (and_parts _ _ (sym c.if-stands_at.ensures)).0 in
     record { book = omega (arith, c.books-book-end.ensures); sent = omega (arith, here, c.requires.0) }
 
 pub loop-book-preserved : goal.loop-book-preserved

@@ -1,12 +1,14 @@
 use Rattle.std.proofs.Common.{◌+◌, ◌*◌, sym, ap, ◌∙◌, subst, arith}
 use Rattle.amounts.specs.Least.{or_none}
 use Rattle.plans.specs.Places.{at}
+use Rattle.sources.specs.Tables.{bit_at}
 use Rattle.solver.specs.Residual.{node}
 use Rattle.solver.specs.Soft.{soft_kind, behind}
 use Rattle.solver.specs.Held.{posed_by, memory_of, Relaxes}
 use Rattle.solver.proofs.Sweeping.{of_begin, of_skip, of_take, of_end}
 use Rattle.solver.proofs.graph.Residual.take_moves_of.Goals as goal
 use Rattle.solver.proofs.graph.Residual.take_moves_of.Goals.{then-has, else-has}
+use Rattle.solver.specs.States.{sent_of}
 
 pub loop-weekend-init : goal.loop-weekend-init
 loop-weekend-init g c =
@@ -21,8 +23,8 @@ take_move-requires g c =
       book = c.requires.book;
       sent = c.requires.sent;
       weekend = omega (arith, c.weekends-weekend-end.ensures);
-      allowed = sym c.if-has.ensures;
-      leaving = c.opposite-leaving.ensures ∙ ap (soft_kind K).minus (c.soft_quote.ensures ∙ ap (λ y. or_none (soft_kind K) (behind (table c.args.book y))) c.from-from.ensures);
+      allowed = ap (λ word. bit_at word c.loop-weekend.weekend) (sym c.word_of-word.ensures) ∙ sym c.if-has.ensures;
+      leaving = c.opposite-leaving.ensures ∙ ap (soft_kind K).minus (c.soft_quote.ensures ∙ ap (λ y. or_none (soft_kind K) (behind (table c.args.book y))) c.weekend_of-from.ensures);
     }
 
 pub loop-weekend-preserved : goal.loop-weekend-preserved
@@ -37,10 +39,10 @@ loop-weekend-preserved g c =
     let m₁ = memory_of c.loop-weekend.labels in
     let i = c.loop-weekend.invariant in
     elim c.if-has.branch [
-      | then-has y ↦ subst (λ l. Relaxes K B state m (memory_of l) (node (at state.sent b) (B.class b)) (129 + b * 16) (129 + (b * 16 + (x + 1)))) (sym y.labels-is)
+      | then-has y ↦ subst (λ l. Relaxes K B state m (memory_of l) (node (at (sent_of state) b) (B.class b)) (129 + b * 16) (129 + (b * 16 + (x + 1)))) (sym y.labels-is)
           (of_take L B state b c.requires.book c.requires.sent m m₁ (memory_of y.take_move.new.labels) x i y.take_move.ensures)
-      | else-has y ↦ subst (λ l. Relaxes K B state m (memory_of l) (node (at state.sent b) (B.class b)) (129 + b * 16) (129 + (b * 16 + (x + 1)))) (sym y.labels-is)
-          (of_skip L B state b c.requires.book c.requires.sent m m₁ x i (omega (arith, c.weekends-weekend-end.ensures)) (sym y.if-has.ensures))
+      | else-has y ↦ subst (λ l. Relaxes K B state m (memory_of l) (node (at (sent_of state) b) (B.class b)) (129 + b * 16) (129 + (b * 16 + (x + 1)))) (sym y.labels-is)
+          (of_skip L B state b c.requires.book c.requires.sent m m₁ x i (omega (arith, c.weekends-weekend-end.ensures)) (ap (λ word. bit_at word x) (sym c.word_of-word.ensures) ∙ sym y.if-has.ensures))
     ]
 
 pub returns : goal.returns
