@@ -71,7 +71,7 @@ impl<'a, S: Source> Graph<'a, S> {
     )
         requires { Walkable S.Quote.Amount.kind (posed_by S.Source S.Quote.Amount.kind self.now) state.old (memory_of labels.old) book into }
         ensures shown { ShownIn S.Quote.Amount.kind (posed_by S.Source S.Quote.Amount.kind self.now) state.new (old_of S.Quote.Amount.kind (memory_of labels.new)) }
-        ensures words { (words_of state.new) ≡ slice_set (words_of state.old) book into }
+        ensures words { words_of state.new ≡ slice_set (words_of state.old) book into }
     {
         let mut hole = state.spot_of(self.roster, book).node();
         while let Some(arc) = labels.reached_by(hole) {

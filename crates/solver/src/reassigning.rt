@@ -28,7 +28,7 @@ impl<'a, S: Source> Graph<'a, S> {
         requires sound { Sound S.Quote.Amount.kind (posed_by S.Source S.Quote.Amount.kind self.now) }
         requires shown { ShownIn S.Quote.Amount.kind (posed_by S.Source S.Quote.Amount.kind self.now) state.old (old_of S.Quote.Amount.kind (memory_of labels.old)) }
         ensures shown { ShownIn S.Quote.Amount.kind (posed_by S.Source S.Quote.Amount.kind self.now) state.new (old_of S.Quote.Amount.kind (memory_of labels.new)) }
-        ensures words { (words_of state.new) ≡ slice_set (words_of state.old) book into }
+        ensures words { words_of state.new ≡ slice_set (words_of state.old) book into }
     {
         let residual = Residual {
             graph: &*self,

@@ -12,7 +12,6 @@ ghost use Rattle.solver.specs.States.{words_of};
 use crate::graph::{Graph, Residual};
 use crate::labels::{Labels, clear_all};
 use crate::open_words::open_words;
-use crate::start::first_state;
 use crate::state::State;
 use crate::unsolved::Unsolved;
 use amounts::Amount;
@@ -43,7 +42,7 @@ impl<'a, S: Source> Graph<'a, S> {
         ensures sound { Sound S.Quote.Amount.kind (posed_by S.Source S.Quote.Amount.kind self.now) }
     {
         let words = open_words(self.source);
-        let mut state = first_state(self.source, self.roster, self.bounds, &words)?;
+        let mut state = self.first_state(&words)?;
         let first = Residual {
             graph: &*self,
             state: &state,

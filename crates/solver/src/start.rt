@@ -12,79 +12,61 @@ ghost use Rattle.solver.specs.States.{sent_of, words_of};
 
 use crate::choices::{Choice, cheaper};
 use crate::counts::enter;
+use crate::graph::{Graph, Residual};
 use crate::network::rise;
 use crate::nodes::Spot;
 use crate::state::State;
 use crate::words::has;
 use amounts::{Amount, Money, Ranked};
-use plans::{Bounds, Roster};
+use plans::Roster;
 use sources::Source;
 
-// The rises at the nodes of a weekend for a class and for every class above, added up.
-fn rises<X: Amount>(
-    roster: &Roster,
-    bounds: &Bounds,
-    counts: &[usize; 128],
-    spot: Spot,
-) -> Ranked<Money, X>
-    requires { spot.class < roster.now.classes }
-{
-    let Spot { weekend, class } = spot;
-    let lower = bounds.lower(weekend, class);
-    let upper = bounds.upper(weekend, class);
-    let own = rise::<X>(lower, upper, counts[spot.node()]);
-    if class == 0 {
-        return own;
+impl<'a, S: Source> Residual<'a, S> {
+    // The rises at a spot and at those of every class above it, added up.
+    fn rises(&self, spot: Spot) -> Ranked<Money, S::Quote>
+        requires { spot.class < self.now.graph.now.roster.now.classes }
+    {
+        let Spot { weekend, class } = spot;
+        let lower = self.graph.bounds.lower(weekend, class);
+        let upper = self.graph.bounds.upper(weekend, class);
+        let own = rise::<S::Quote>(lower, upper, self.state.counts[spot.node()]);
+        if class == 0 {
+            return own;
+        }
+        let class = self.graph.roster.parent(class);
+        own.sum(self.rises(Spot { weekend, class }))
     }
-    let class = roster.parent(class);
-    let above = rises::<X>(roster, bounds, counts, Spot { weekend, class });
-    own.sum(above)
-}
 
-// What it costs to send one more book to a weekend: the rises first, and then the quote.
-fn price_weekend<S: Source>(
-    source: &S,
-    roster: &Roster,
-    bounds: &Bounds,
-    counts: &[usize; 128],
-    book: usize,
-    weekend: usize,
-) -> Choice<Ranked<Money, S::Quote>>
-    requires { weekend < 16 }
-    ensures { result.place ≡ weekend }
-{
-    let class = roster.class_of(book);
-    let mut cost = rises::<S::Quote>(roster, bounds, counts, Spot { weekend, class });
-    if let Some(quote) = source.quote(book, weekend) {
-        cost.second = cost.second.sum(quote);
-    }
-    Choice {
-        place: weekend,
-        cost,
-    }
-}
-
-// The cheapest choice among the open weekends of a book, if it has one; its word says where it is open.
-fn cheapest<S: Source>(
-    source: &S,
-    roster: &Roster,
-    bounds: &Bounds,
-    counts: &[usize; 128],
-    word: u16,
-    book: usize,
-) -> Option<Choice<Ranked<Money, S::Quote>>>
-    requires { (w : ℕ) → bit_at word w ≡ is_some (S.Source.table source.now book w) }
-    ensures { Found (S.Source.table source.now book) (S.Source.weeks source.now) result }
-{
-    let mut found = None;
-    // Stays: (c) as a chain with `min_by` it is proved that an open weekend is answered, and not that none is open where none is ("`search`: no proof").
-    for weekend in 0..source.weekends() {
-        if has(word, weekend) {
-            let more = price_weekend(source, roster, bounds, counts, book, weekend);
-            found = Some(cheaper(found, more));
+    // What it costs to send one more book to a weekend: the rises first, and then the quote.
+    fn price_weekend(&self, book: usize, weekend: usize) -> Choice<Ranked<Money, S::Quote>>
+        requires { weekend < 16 }
+        ensures { result.place ≡ weekend }
+    {
+        let class = self.graph.roster.class_of(book);
+        let mut cost = self.rises(Spot { weekend, class });
+        if let Some(quote) = self.graph.source.quote(book, weekend) {
+            cost.second = cost.second.sum(quote);
+        }
+        Choice {
+            place: weekend,
+            cost,
         }
     }
-    found
+
+    // The cheapest choice among the open weekends of a book, if it has one; its word says where it is open.
+    fn cheapest(&self, word: u16, book: usize) -> Option<Choice<Ranked<Money, S::Quote>>>
+        requires { (w : ℕ) → bit_at word w ≡ is_some (S.Source.table self.now.graph.now.source.now book w) }
+        ensures { Found (S.Source.table self.now.graph.now.source.now book) (S.Source.weeks self.now.graph.now.source.now) result }
+    {
+        let mut found = None;
+        // Stays: (c) as a chain with `min_by` it is proved that an open weekend is answered, and not that none is open where none is ("`search`: no proof").
+        for weekend in 0..self.graph.source.weekends() {
+            if has(word, weekend) {
+                found = Some(cheaper(found, self.price_weekend(book, weekend)));
+            }
+        }
+        found
+    }
 }
 
 // Sends a book to a weekend, which is then the only one of its word.
@@ -92,8 +74,8 @@ fn place(state: &mut State, roster: &Roster, book: usize, weekend: usize)
     requires near { weekend < 16 }
     requires within { book < 120 }
     requires room { (c : ℕ) → c < 8 → at state.old.counts (node weekend c) ≤ 120 }
-    ensures sent { (sent_of state.new) ≡ slice_set (sent_of state.old) book weekend }
-    ensures words { (words_of state.new) ≡ slice_set (words_of state.old) book (2 ^ weekend) }
+    ensures sent { sent_of state.new ≡ slice_set (sent_of state.old) book weekend }
+    ensures words { words_of state.new ≡ slice_set (words_of state.old) book (2 ^ weekend) }
     ensures counts { (w c : ℕ) → c < 8 → at state.new.counts (node w c) ≡ at state.old.counts (node w c) + bit (weekend == w && is_member roster.now book c) }
 {
     state.send(book, weekend);
@@ -101,20 +83,21 @@ fn place(state: &mut State, roster: &Roster, book: usize, weekend: usize)
     enter(&mut state.counts, roster, book, weekend);
 }
 
-// `words` says where the books are open. None where a book is open nowhere.
-pub(crate) fn first_state<S: Source>(
-    source: &S,
-    roster: &Roster,
-    bounds: &Bounds,
-    words: &[u16; 120],
-) -> Option<State>
-    requires { (b w : ℕ) → word_at words.now b w ≡ is_some (S.Source.table source.now b w) }
-    ensures { MatchOption result (stranded (S.Source.count source.now) (S.Source.weeks source.now) (S.Source.table source.now) ≡ true) (Begun (meaning S.Source source.now) roster.now) }
-{
-    let mut state = State::empty();
-    for (book, word) in words[..source.books()].iter().enumerate() {
-        let best = cheapest(source, roster, bounds, &state.counts, *word, book)?;
-        place(&mut state, roster, book, best.place);
+impl<'a, S: Source> Graph<'a, S> {
+    // `words` says where the books are open. None where a book is open nowhere.
+    pub(crate) fn first_state(&self, words: &[u16; 120]) -> Option<State>
+        requires { (b w : ℕ) → word_at words.now b w ≡ is_some (S.Source.table self.now.source.now b w) }
+        ensures { MatchOption result (stranded (S.Source.count self.now.source.now) (S.Source.weeks self.now.source.now) (S.Source.table self.now.source.now) ≡ true) (Begun (meaning S.Source self.now.source.now) self.now.roster.now) }
+    {
+        let mut state = State::empty();
+        for (book, word) in words[..self.source.books()].iter().enumerate() {
+            let residual = Residual {
+                graph: &*self,
+                state: &state,
+            };
+            let best = residual.cheapest(*word, book)?;
+            place(&mut state, self.roster, book, best.place);
+        }
+        Some(state)
     }
-    Some(state)
 }

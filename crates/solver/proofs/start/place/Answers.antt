@@ -4,9 +4,6 @@ use Rattle.solver.specs.States.{words_of}
 use Rattle.solver.proofs.Stated.{sent_same, words_same}
 use Rattle.solver.proofs.start.place.Goals as goal
 
-pub invariant_of-state : goal.invariant_of-state
-invariant_of-state c = record { sized = (c.widen.new.self.sized.0, c.enter.ensures.long) }
-
 pub returns-clause-sent : goal.returns-clause-sent
 returns-clause-sent c = sent_same c.widen.new.self _ refl ∙ c.widen.ensures.sent ∙ c.send.ensures.sent
 

@@ -1,4 +1,4 @@
-use Rattle.std.proofs.Common.{set, sym, ap, ◌∙◌, subst, arith}
+use Rattle.std.proofs.Common.{sym, ◌∙◌, subst, arith}
 use Rattle.solver.specs.Held.{ShownIn}
 use Rattle.solver.proofs.Augmented.{undoable, Step, step, start_weekend, shown}
 use Rattle.solver.proofs.graph.Graph.augment.Given as given
@@ -22,14 +22,6 @@ loop-arc-preserved g c = let s = turn g c in (s.walks, s.words ∙ c.loop-arc.in
 pub of-requires : goal.of-requires
 of-requires g c = omega (arith, start_weekend g.met.S.Quote.Amount.lawful _ _ _ _ _ c.requires _ _ c.loop-arc.invariant.0 c.in_default.ensures)
 
-pub put-requires : goal.put-requires
-put-requires g c = (omega (arith, c.requires.book, c.requires.fits.sound.books), c.of.result.near)
-
-pub returns : goal.returns
-returns g c =
-    let i = c.loop-arc.invariant in
-    let o = c.put.ensures in
-    record {
-      shown = subst (ShownIn g.S.Quote.Amount.kind _ c.put.new.state) (sym c.adopt.ensures) (shown g.met.S.Quote.Amount.lawful _ _ _ _ _ c.requires _ _ _ i.0 c.in_default.ensures (rw (← c.of.ensures.weekend) o));
-      words = o.1 ∙ ap (λ w. set w c.args.book c.args.into) i.1;
-    }
+pub returns-clause-shown : goal.returns-clause-shown
+returns-clause-shown g c =
+    subst (ShownIn g.S.Quote.Amount.kind _ c.put.new.state) (sym c.adopt.ensures) (shown g.met.S.Quote.Amount.lawful _ _ _ _ _ c.requires _ _ _ c.loop-arc.invariant.0 c.in_default.ensures (rw (← c.of.ensures.weekend) c.put.ensures))

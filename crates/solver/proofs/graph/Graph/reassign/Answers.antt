@@ -4,16 +4,13 @@ use Rattle.solver.specs.Held.{old_of, posed_by, memory_of, ShownIn}
 use Rattle.solver.proofs.Retaken.{stay_shown, walkable}
 use Rattle.solver.proofs.graph.Graph.reassign.Goals as goal
 
-pub returns-then-stays : goal.returns-then-stays
-returns-then-stays g c =
+pub returns-then-stays-clause-shown : goal.returns-then-stays-clause-shown
+returns-then-stays-clause-shown g c =
     let K = g.S.Quote.Amount.kind in
     let B = posed_by g.S.Source K c.args.self.now in
     let e = c.if-stays.ensures in
     let w = c.widen.ensures in
-    record {
-      shown = stay_shown g.met.S.Quote.Amount.lawful B c.requires.sound c.args.state.now c.widen.new.self (old_of K (memory_of c.args.labels.now)) _ c.args.book c.args.into c.requires.book c.requires.shown (e.stays refl) w.sent w.counts w.words (ap (old_of K) e.same);
-      words = w.words;
-    }
+    stay_shown g.met.S.Quote.Amount.lawful B c.requires.sound c.args.state.now c.widen.new.self (old_of K (memory_of c.args.labels.now)) _ c.args.book c.args.into c.requires.book c.requires.shown (e.stays refl) w.sent w.counts w.words (ap (old_of K) e.same)
 
 pub augment-requires : goal.augment-requires
 augment-requires g c =

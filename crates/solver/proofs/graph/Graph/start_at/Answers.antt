@@ -1,7 +1,7 @@
 use Rattle.std.proofs.Common.{◌+◌, sym, ap, ◌∙◌, subst, arith}
 use Rattle.solver.specs.Residual.{node}
 use Rattle.solver.specs.Held.{posed_by, memory_of}
-use Rattle.solver.proofs.Beginning.{Starting, starting_none, starting_skip, starting_more, started}
+use Rattle.solver.proofs.Beginning.{Starting, starting_none, starting_skip, starting_more}
 use Rattle.solver.proofs.graph.Graph.start_at.Goals as goal
 use Rattle.solver.proofs.graph.Graph.start_at.Goals.{then-has, else-has}
 
@@ -27,8 +27,3 @@ loop-weekend-preserved g c =
           (y.node.ensures.is ∙ ap (node n) c.class_of-class.ensures.value) y.soft_quote.ensures (ap memory_of y.labels-is ∙ given.3) i
       | else-has y ↦ subst (λ l. Starting K B b into m₀ (memory_of l) (n + 1)) (sym y.labels-is) (starting_skip K B b into m₀ (memory_of l) n (sym y.if-has.ensures) i)
     ]
-
-pub returns : goal.returns
-returns g c =
-    let B = posed_by g.S.Source g.S.Quote.Amount.kind c.args.self.now in
-    started g.met.S.Quote.Amount.lawful B c.args.book c.args.into _ (memory_of c.reset.new.self) _ c.loop-weekend.weekend (omega (arith, c.weekends-weekend-end.ensures)) c.reset.ensures.old c.loop-weekend.invariant

@@ -1,7 +1,6 @@
-use Rattle.std.proofs.Common.{◌≡◌, sym, ap, ◌∙◌, subst, add-one, arith}
-use Rattle.std.proofs.lemmas.Bool.{and_parts}
+use Rattle.std.proofs.Common.{◌≡◌, sym, subst, add-one, arith}
 use Rattle.solver.specs.Search.{nodes}
-use Rattle.solver.specs.Held.{posed_by, memory_of, seen_of, NoneOpen, NearestOpen}
+use Rattle.solver.specs.Held.{posed_by, memory_of, NoneOpen, NearestOpen}
 use Rattle.solver.proofs.Sought.{Sought, sought_begin, sought_next, sought_end, sought_all}
 use Rattle.solver.proofs.graph.Residual.search.Goals as goal
 
@@ -17,14 +16,6 @@ returns-in_default g c =
     let m₀ = memory_of c.args.labels.now in
     let i = subst (λ m. Sought L B state m₀ m c.loop-turn.turn) (sym e.same) c.loop-turn.invariant in
     sought_end L B state m₀ _ c.loop-turn.turn i c.pick.new.self.sized.2 (subst NoneOpen (sym e.same) e.found)
-
-pub settle-requires : goal.settle-requires
-settle-requires g c =
-    let e = c.in-Some.ensures in
-    record { node = e.found.within; rank = omega arith; seen = ap (λ m. seen_of m c.in-Some.nearest.place) e.same ∙ (and_parts _ _ e.found.is_open).0 }
-
-pub relax-requires : goal.relax-requires
-relax-requires g c = c.in-Some.ensures.found.within
 
 pub loop-turn-preserved : goal.loop-turn-preserved
 loop-turn-preserved g c =

@@ -9,8 +9,8 @@ use Rattle.solver.proofs.Beginning.{read_old}
 use Rattle.solver.proofs.graph.Residual.stays_by.Goals as goal
 use Rattle.solver.specs.States.{sent_of}
 
-pub returns : goal.returns
-returns g c =
+pub returns-clause-value : goal.returns-clause-value
+returns-clause-value g c =
     let K = g.S.Quote.Amount.kind in
     let B = posed_by g.S.Source K c.args.self.now.graph.now in
     let b = c.args.book in
@@ -27,7 +27,4 @@ returns g c =
     let cost : c.sum-cost.result ≡ moving (soft_kind K) (softened B) b y x = c.sum-cost.ensures ∙ ap₂ (soft_kind K).plus c.soft_quote.ensures c.requires.leaving in
     let from = read_old K m m c.node.result (node y (B.class b)) c.read.result refl tail-in tail t.read in
     let to = read_old K m _ c.node-2.result (node x (B.class b)) c.read-2.result t.same head_in head r.read in
-    record {
-      value = c.is_le.ensures ∙ ap is_le (c.compare.ensures ∙ ap₂ (soft_kind K).cmp to (c.sum-most.ensures ∙ ap₂ (soft_kind K).plus from cost));
-      same = r.same ∙ t.same;
-    }
+    c.is_le.ensures ∙ ap is_le (c.compare.ensures ∙ ap₂ (soft_kind K).cmp to (c.sum-most.ensures ∙ ap₂ (soft_kind K).plus from cost))

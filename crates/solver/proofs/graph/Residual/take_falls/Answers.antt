@@ -10,9 +10,6 @@ loop-class-init g c =
     let B = posed_by g.S.Source g.S.Quote.Amount.kind c.args.self.now.graph.now in
     falls_begin g.met.S.Quote.Amount.lawful B c.args.self.now.state.now c.args.spot.weekend c.args.spot.class c.requires.0 c.requires.1 _
 
-pub take_fall-requires : goal.take_fall-requires
-take_fall-requires g c = (c.requires.0, omega (arith, c.classes-class-end.ensures))
-
 pub loop-class-preserved : goal.loop-class-preserved
 loop-class-preserved g c =
     let L = g.met.S.Quote.Amount.lawful in

@@ -1,22 +1,9 @@
 use Rattle.std.proofs.Common.{◌+◌, ◌*◌, sym, subst, arith}
-use Rattle.std.proofs.lemmas.Bool.{and_parts, eqb-true}
-use Rattle.plans.specs.Places.{at}
 use Rattle.solver.specs.Residual.{node}
 use Rattle.solver.specs.Held.{posed_by, memory_of, Relaxes}
-use Rattle.solver.proofs.Sweeping.{moves_begin, moves_skip, moves_take, moves_end}
+use Rattle.solver.proofs.Sweeping.{moves_skip, moves_take, moves_end}
 use Rattle.solver.proofs.graph.Residual.take_moves.Goals as goal
 use Rattle.solver.proofs.graph.Residual.take_moves.Goals.{then-stands_at, else-stands_at}
-use Rattle.solver.specs.States.{sent_of}
-
-pub loop-book-init : goal.loop-book-init
-loop-book-init g c =
-    let B = posed_by g.S.Source g.S.Quote.Amount.kind c.args.self.now.graph.now in
-    moves_begin g.met.S.Quote.Amount.lawful B c.args.self.now.state.now c.args.spot.weekend c.args.spot.class c.requires.0 c.requires.1 _
-
-pub take_moves_of-requires : goal.take_moves_of-requires
-take_moves_of-requires g c =
-    let here = eqb-true (at (sent_of c.args.self.now.state.now) c.loop-book.book) c.args.spot.weekend (and_parts _ _ (sym c.if-stands_at.ensures)).0 in
-    record { book = omega (arith, c.books-book-end.ensures); sent = omega (arith, here, c.requires.0) }
 
 pub loop-book-preserved : goal.loop-book-preserved
 loop-book-preserved g c =

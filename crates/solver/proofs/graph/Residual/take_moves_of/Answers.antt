@@ -1,31 +1,12 @@
 use Rattle.std.proofs.Common.{◌+◌, ◌*◌, sym, ap, ◌∙◌, subst, arith}
-use Rattle.amounts.specs.Least.{or_none}
 use Rattle.plans.specs.Places.{at}
 use Rattle.sources.specs.Tables.{bit_at}
 use Rattle.solver.specs.Residual.{node}
-use Rattle.solver.specs.Soft.{soft_kind, behind}
 use Rattle.solver.specs.Held.{posed_by, memory_of, Relaxes}
-use Rattle.solver.proofs.Sweeping.{of_begin, of_skip, of_take, of_end}
+use Rattle.solver.proofs.Sweeping.{of_skip, of_take, of_end}
 use Rattle.solver.proofs.graph.Residual.take_moves_of.Goals as goal
 use Rattle.solver.proofs.graph.Residual.take_moves_of.Goals.{then-has, else-has}
 use Rattle.solver.specs.States.{sent_of}
-
-pub loop-weekend-init : goal.loop-weekend-init
-loop-weekend-init g c =
-    let B = posed_by g.S.Source g.S.Quote.Amount.kind c.args.self.now.graph.now in
-    of_begin g.met.S.Quote.Amount.lawful B c.args.self.now.state.now c.args.book c.requires.book c.requires.sent _
-
-pub take_move-requires : goal.take_move-requires
-take_move-requires g c =
-    let K = g.S.Quote.Amount.kind in
-    let table = g.S.Source.table c.args.self.now.graph.now.source.now in
-    record {
-      book = c.requires.book;
-      sent = c.requires.sent;
-      weekend = omega (arith, c.weekends-weekend-end.ensures);
-      allowed = ap (λ word. bit_at word c.loop-weekend.weekend) (sym c.word_of-word.ensures) ∙ sym c.if-has.ensures;
-      leaving = c.opposite-leaving.ensures ∙ ap (soft_kind K).minus (c.soft_quote.ensures ∙ ap (λ y. or_none (soft_kind K) (behind (table c.args.book y))) c.weekend_of-from.ensures);
-    }
 
 pub loop-weekend-preserved : goal.loop-weekend-preserved
 loop-weekend-preserved g c =

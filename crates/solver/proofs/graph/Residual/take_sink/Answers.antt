@@ -6,9 +6,6 @@ use Rattle.solver.proofs.graph.Residual.take_sink.Goals as goal
 pub loop-weekend-init : goal.loop-weekend-init
 loop-weekend-init g c = sink_begin g.met.S.Quote.Amount.lawful (posed_by g.S.Source g.S.Quote.Amount.kind c.args.self.now.graph.now) c.args.self.now.state.now _
 
-pub take_fall-requires : goal.take_fall-requires
-take_fall-requires g c = (omega (arith, c.weekends-weekend-end.ensures), omega (arith, c.args.self.now.graph.now.roster.now.sound.0))
-
 pub loop-weekend-preserved : goal.loop-weekend-preserved
 loop-weekend-preserved g c =
     let B = posed_by g.S.Source g.S.Quote.Amount.kind c.args.self.now.graph.now in

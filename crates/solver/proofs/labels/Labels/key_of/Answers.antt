@@ -5,8 +5,8 @@ use Rattle.solver.proofs.Beginning.{read_old}
 use Rattle.solver.proofs.Relaxed.{read_new}
 use Rattle.solver.proofs.labels.Labels.key_of.Goals as goal
 
-pub returns : goal.returns
-returns g c =
+pub returns-clause-value : goal.returns-clause-value
+returns-clause-value g c =
     let K = g.X.Amount.kind in
     let m = memory_of c.args.self.now in
     let v = c.args.node in
@@ -14,4 +14,4 @@ returns g c =
     let b = c.read-old.ensures in
     let new = read_new K m v v c.read-new.result c.requires refl a.read in
     let old = read_old K m _ v v c.read-old.result a.same c.requires refl b.read in
-    record { value = c.sum.ensures ∙ ap₂ (soft_kind K).plus new (c.opposite.ensures ∙ ap (soft_kind K).minus old); same = b.same ∙ a.same }
+    c.sum.ensures ∙ ap₂ (soft_kind K).plus new (c.opposite.ensures ∙ ap (soft_kind K).minus old)

@@ -1,7 +1,7 @@
 use Rattle.std.proofs.Common.{◌+◌, sym, ap, ◌∙◌}
 use Rattle.solver.specs.Search.{nodes}
 use Rattle.solver.specs.Held.{memory_of, written, marked}
-use Rattle.solver.proofs.Offering.{offered_taken, offered_left}
+use Rattle.solver.proofs.Offering.{offered_taken}
 use Rattle.solver.proofs.labels.Labels.offer.Goals as goal
 
 pub returns-then-takes : goal.returns-then-takes
@@ -12,6 +12,3 @@ returns-then-takes g c =
     let given = c.give.ensures in
     offered_taken g.X.Amount.kind (memory_of l) _ v x c.args.arc given.0 c.requires l.sized.0 l.sized.1 l.sized.2 given.1 given.2 (sym c.if-takes.ensures.value)
     (given.3 ∙ ap (λ m. marked (written m (nodes + v) x) v given.0) c.if-takes.ensures.same)
-
-pub returns-else-takes : goal.returns-else-takes
-returns-else-takes g c = offered_left g.X.Amount.kind (memory_of c.args.self.now) _ c.args.node c.args.label c.args.arc (sym c.if-takes.ensures.value) c.if-takes.ensures.same

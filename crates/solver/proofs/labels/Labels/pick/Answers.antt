@@ -1,12 +1,9 @@
-use Rattle.std.proofs.Common.{◌≡◌, ◌+◌, sym, refl, ap, ◌∙◌, subst, not-suc-le-zero, arith}
+use Rattle.std.proofs.Common.{◌≡◌, ◌+◌, sym, refl, ap, ◌∙◌, subst, arith}
 use Rattle.solver.specs.Search.{nodes}
 use Rattle.solver.specs.Held.{memory_of, open_of, key_of}
 use Rattle.solver.proofs.Picked.{Best, scan_shut, scan_open, scan_all}
 use Rattle.solver.proofs.labels.Labels.pick.Goals as goal
 use Rattle.solver.proofs.labels.Labels.pick.Goals.{then-is_open, else-is_open}
-
-pub loop-node-init : goal.loop-node-init
-loop-node-init g c = (λ v h. absurd (not-suc-le-zero h), refl)
 
 pub loop-node-preserved : goal.loop-node-preserved
 loop-node-preserved g c =
@@ -27,9 +24,9 @@ loop-node-preserved g c =
       )
     ]
 
-pub returns : goal.returns
-returns g c =
+pub returns-clause-found : goal.returns-clause-found
+returns-clause-found g c =
     let K = g.X.Amount.kind in
     let i = c.loop-node.invariant in
     let all : c.loop-node.node ≡ nodes = omega arith in
-    record { found = scan_all K (memory_of c.args.self.now) c.loop-node.found (rw all at i.0); same = i.1 }
+    scan_all K (memory_of c.args.self.now) c.loop-node.found (rw all at i.0)

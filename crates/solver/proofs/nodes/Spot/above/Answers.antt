@@ -4,17 +4,10 @@ use Rattle.solver.specs.Residual.{above}
 use Rattle.solver.proofs.Above.{above_root, above_other}
 use Rattle.solver.proofs.nodes.Spot.above.Goals as goal
 
-pub returns-then-self-eq0 : goal.returns-then-self-eq0
-returns-then-self-eq0 c =
-    let parent = at c.args.roster.now.parents in
-    record { is = sym (ap (above parent c.args.self.weekend) c.if-self-eq0.true ∙ above_root parent c.args.self.weekend); within = omega arith }
+pub returns-then-self-eq0-clause-is : goal.returns-then-self-eq0-clause-is
+returns-then-self-eq0-clause-is c = let parent = at c.args.roster.now.parents in sym (ap (above parent c.args.self.weekend) c.if-self-eq0.true ∙ above_root parent c.args.self.weekend)
 
-pub returns-else-self-eq0 : goal.returns-else-self-eq0
-returns-else-self-eq0 c =
-    let r = c.args.roster.now in
+pub returns-else-self-eq0-clause-is : goal.returns-else-self-eq0-clause-is
+returns-else-self-eq0-clause-is c =
     let some : 0 < c.args.self.class = omega (arith, c.if-self-eq0.false) in
-    let small = r.sound.3 c.args.self.class some c.requires in
-    record {
-      is = ap (λ p. c.args.self.weekend * 8 + p) c.parent.ensures ∙ sym (above_other (at r.parents) c.args.self.weekend c.args.self.class some);
-      within = omega (arith, c.parent.ensures, small, r.sound.1);
-    }
+    ap (λ p. c.args.self.weekend * 8 + p) c.parent.ensures ∙ sym (above_other (at c.args.roster.now.parents) c.args.self.weekend c.args.self.class some)
