@@ -43,17 +43,6 @@ module _ {V : Type 0} (K : Kind V) where
     taken_unsettled : takes K m v x ≡ true → nodes ≤ rank_of m v
     taken_unsettled e = ⊎_elim (λ (h : rank_of m v < nodes). absurd (both_ways (takes K m v x) (takes_settled h) e)) (λ (h : nodes ≤ rank_of m v). h) (cases_lt (rank_of m v) nodes)
 
-  -- v leaves the label
-  pub offered_left : (m m' : Memory V) (v : ℕ) (x : Ranked Money V) (a : Arc) → takes K m v x ≡ false → m' ≡ m → Offered K m m' v x a
-  offered_left m m' v x a e q =
-      let same : Offered K m m v x a = record {
-        kept = record { old = refl; ranks = refl };
-        others = λ u d. record { label = refl; seen = refl; via = refl };
-        left = λ h. record { label = refl; seen = refl; via = refl };
-        taken = λ h. absurd (both_ways (takes K m v x) e h);
-      } in
-      subst (λ m'. Offered K m m' v x a) (sym q) same
-
   -- v takes the label
   pub offered_taken : (m m' : Memory V) (v : ℕ) (x : Ranked Money V) (a : Arc) (mark : Mark) → v < nodes → length m.heads ≡ 258 → 258 ≤ length m.sheet → length m.marks ≡ 129 → mark.rank ≡ None → mark.arc ≡ Some a → takes K m v x ≡ true →
       m' ≡ marked (written m (nodes + v) x) v mark → Offered K m m' v x a

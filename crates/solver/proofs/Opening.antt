@@ -1,5 +1,5 @@
 -- Words of open weekends, weekend by weekend and book by book. Assumes nothing.
-use Rattle.std.proofs.Common.{◌≡◌, ℕ, zero, suc, ◌+◌, ◌^◌, ◌<◌, ◌≤◌, Bool, true, false, ◌&&◌, eqb, ltb, get_or, replicate, is_some, Option, sym, refl, ap, ◌∙◌, ⊎_elim, arith}
+use Rattle.std.proofs.Common.{◌≡◌, ℕ, zero, suc, ◌+◌, ◌^◌, ◌<◌, ◌≤◌, true, false, ◌&&◌, eqb, ltb, get_or, replicate, is_some, Option, sym, refl, ap, ◌∙◌, ⊎_elim, arith}
 use lib.Bits.{bit_or}
 use Rattle.std.proofs.lemmas.Bool.{cases_eq, cases_lt, lt-ltb, le-ltb, eq-eqb, ne_eqb, and_from, and_right, cond-true, cond-false}
 use Rattle.sources.specs.Tables.{bit_at}
@@ -11,11 +11,6 @@ ltb_more i n d =
     (λ (h : i < n). lt-ltb i (n + 1) (omega arith) ∙ sym (lt-ltb i n h))
     (λ (h : n ≤ i). le-ltb i (n + 1) (omega arith) ∙ sym (le-ltb i n h))
     (cases_lt i n)
-
--- where no test passes from n on, the tests below n are all
-pub below_all : (t : ℕ → Bool) (n : ℕ) → ((i : ℕ) → n ≤ i → t i ≡ false) → (u : Bool) (i : ℕ) → u ≡ (ltb i n && t i) → u ≡ t i
-below_all t n none u i e =
-    e ∙ ⊎_elim (λ (h : i < n). ap (λ x. x && t i) (lt-ltb i n h)) (λ (h : n ≤ i). and_right (ltb i n) (t i) (none i h) ∙ sym (none i h)) (cases_lt i n)
 
 -- one more weekend of a book's word, shut or open
 module _ {V : Type 0} (row : ℕ → Option V) (n word : ℕ) (before : (w : ℕ) → bit_at word w ≡ (ltb w n && is_some (row w))) (q : Option V) (is : q ≡ row n) where

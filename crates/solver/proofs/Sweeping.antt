@@ -75,9 +75,6 @@ module _ {V : Type 0} {K : Kind V} (L : Lawful K) (B : Problem V) (state : State
 
   -- ---- the moves of the book b
   module _ (b : ℕ) (lb : b < B.books) (sent : at (sent_of state) b < B.weekends) where
-    pub of_begin : (m : Memory V) → Relaxes K B state m m (node (at (sent_of state) b) (B.class b)) (129 + b * 16) (129 + (b * 16 + 0))
-    of_begin m = relaxes_none L B state m _ _ _ (λ origin begin g a live from h l. omega arith)
-
     pub of_skip : (m m₁ : Memory V) (x : ℕ) → Relaxes K B state m m₁ (node (at (sent_of state) b) (B.class b)) (129 + b * 16) (129 + (b * 16 + x)) → x < B.weekends → word_at (words_of state) b x ≡ false →
         Relaxes K B state m m₁ (node (at (sent_of state) b) (B.class b)) (129 + b * 16) (129 + (b * 16 + (x + 1)))
     of_skip m m₁ x y lx shut = past m m₁ _ _ _ _ y (λ origin begin g a live from h l.
@@ -100,9 +97,6 @@ module _ {V : Type 0} {K : Kind V} (L : Lawful K) (B : Problem V) (state : State
 
   -- ---- the moves out of the node of w and c
   module _ (w c : ℕ) (lw : w < B.weekends) (lc : c < B.classes) where
-    pub moves_begin : (m : Memory V) → Relaxes K B state m m (node w c) 129 (129 + 0 * 16)
-    moves_begin m = relaxes_none L B state m _ _ _ (λ origin begin g a live from h l. omega arith)
-
     pub moves_skip : (m m₁ : Memory V) (b : ℕ) → Relaxes K B state m m₁ (node w c) 129 (129 + b * 16) → (eqb (at (sent_of state) b) w && eqb (B.class b) c) ≡ false → Relaxes K B state m m₁ (node w c) 129 (129 + (b + 1) * 16)
     moves_skip m m₁ b x off = past m m₁ _ _ _ _ x (λ origin begin g a live from h l.
         let s = g.fits.sound in
