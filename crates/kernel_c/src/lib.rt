@@ -34,7 +34,7 @@ fn bounds_of(books: usize, pairs: &[u8]) -> Bounds {
     bounds
 }
 
-// Stays: (a) the C interface: lists, and a code for how it ended: 0 solved, 1 a book has no open weekend, 2 no roster or too short a sheet.
+// Stays: the C interface: lists, and a code for how it ended: 0 solved, 1 a book has no open weekend, 2 no roster or too short a sheet.
 #[unsafe(no_mangle)]
 pub extern "C" fn solve_money(
     books: usize,

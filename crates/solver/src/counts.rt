@@ -10,7 +10,7 @@ use crate::nodes::Spot;
 use plans::Roster;
 
 // One more of a class at a weekend, and of every class above.
-// Stays: (d) a loop up the classes is no shorter, and this contract would be its invariant.
+// Stays: a loop up the classes is no shorter, and this contract would be its invariant.
 fn enter_class(counts: &mut [usize; 128], roster: &Roster, spot: Spot)
     requires known { spot.class < roster.now.classes }
     requires room { (c : ℕ) → c ≤ spot.class → at counts.old (node spot.weekend c) ≤ 120 }

@@ -59,7 +59,7 @@ impl<'a, S: Source> Residual<'a, S> {
         ensures { Found (S.Source.table self.now.graph.now.source.now book) (S.Source.weeks self.now.graph.now.source.now) result }
     {
         let mut found = None;
-        // Stays: (c) as a chain with `min_by` it is proved that an open weekend is answered, and not that none is open where none is ("`search`: no proof").
+        // Stays: as a chain with `min_by` it is proved that an open weekend is answered, and not that none is open where none is ("`search`: no proof").
         for weekend in 0..self.graph.source.weekends() {
             if has(word, weekend) {
                 found = Some(cheaper(found, self.price_weekend(book, weekend)));

@@ -67,7 +67,7 @@ impl<'a, S: Source> Residual<'a, S> {
             return false;
         }
         let leaving = self.graph.soft_quote(book, from).opposite();
-        // Stays: (a) a label is read through the table, which is lent for writing; a closure that changes what it captures has no proof.
+        // Stays: a label is read through the table, which is lent for writing; a closure that changes what it captures has no proof.
         for weekend in 0..self.graph.source.weekends() {
             if has(into, weekend) && !self.stays_by(labels, book, weekend, leaving) {
                 return false;
