@@ -3,40 +3,38 @@
 
 use amounts::Money;
 use plans::{Bounds, Roster};
-use solver::{Solution, solve};
+use solver::{Unsolved, solve};
 use sources::QuoteTable;
+use std::array;
 
 // The first quotes as amounts, and zero behind them.
 fn amounts_of(quotes: &[i64]) -> [Money; 1920] {
-    let mut amounts = [Money { value: 0 }; 1920];
-    for place in 0..quotes.len().min(1920) {
-        amounts[place] = Money {
-            value: quotes[place],
-        };
-    }
-    amounts
+    array::from_fn(|place| Money {
+        value: quotes.get(place).copied().unwrap_or(0),
+    })
 }
 
 // The first words, and zero behind them.
 fn words_of(open: &[u16]) -> [u16; 120] {
-    let mut words = [0; 120];
-    for book in 0..open.len().min(120) {
-        words[book] = open[book];
-    }
-    words
+    array::from_fn(|book| open.get(book).copied().unwrap_or(0))
 }
 
 // The bounds of 16 weekends and 8 classes: lower and upper in turn.
 fn bounds_of(books: usize, pairs: &[u8]) -> Bounds {
     let mut bounds = Bounds::open(books);
-    for place in 0..pairs.len().min(256) / 2 {
-        let lower = usize::from(pairs[2 * place]);
-        let upper = usize::from(pairs[2 * place + 1]);
-        bounds.set(place / 8, place % 8, lower, upper);
+    let (pairs, _) = pairs.as_chunks::<2>();
+    for (place, [lower, upper]) in pairs.iter().take(128).enumerate() {
+        bounds.set(
+            place / 8,
+            place % 8,
+            usize::from(*lower),
+            usize::from(*upper),
+        );
     }
     bounds
 }
 
+// Stays: the C interface: lists, and a code for how it ended: 0 solved, 1 a book has no open weekend, 2 no roster or too short a sheet.
 #[unsafe(no_mangle)]
 pub extern "C" fn solve_money(
     books: usize,
@@ -57,13 +55,13 @@ pub extern "C" fn solve_money(
     let bounds = bounds_of(books, bounds);
     let mut work = [Money { value: 0 }; 1024];
     match solve(&source, &roster, &bounds, &mut work) {
-        Solution::Least(weekends) => {
-            for book in 0..sent.len().min(120) {
-                sent[book] = weekends[book];
+        Ok(weekends) => {
+            for (place, weekend) in sent.iter_mut().zip(weekends) {
+                *place = weekend;
             }
             0
         }
-        Solution::Stranded => 1,
-        Solution::Short => 2,
+        Err(Unsolved::Stranded) => 1,
+        Err(Unsolved::Short) => 2,
     }
 }

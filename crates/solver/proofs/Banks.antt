@@ -45,6 +45,17 @@ module _ {V : Type 0} (K : Kind V) where
   pub old_kept : (heads : List Money) (sheet : List V) (i : ℕ) (x : Ranked Money V) → nodes ≤ i → bank K 0 (set heads i x.first) (set sheet i x.second) ≡ bank K 0 heads sheet
   old_kept heads sheet i x h = fun_ext (λ u. bank_set_other 0 heads sheet i u x (λ l e. omega arith))
 
-  -- and what is written in front of the new labels leaves those
-  pub new_kept : (heads : List Money) (sheet : List V) (i : ℕ) (x : Ranked Money V) → i < nodes → bank K nodes (set heads i x.first) (set sheet i x.second) ≡ bank K nodes heads sheet
-  new_kept heads sheet i x h = fun_ext (λ u. bank_set_other nodes heads sheet i u x (λ l e. omega arith))
+  -- a label in front is written
+  pub front_set : (heads : List Money) (sheet : List V) (v : ℕ) (x : Ranked Money V) → v < nodes → length heads ≡ 258 → 258 ≤ length sheet → bank K 0 (set heads v x.first) (set sheet v x.second) v ≡ x
+  front_set heads sheet v x lv hl sl = rw (zero-add v) at (bank_set_here 0 heads sheet v x lv (omega arith) (omega arith))
+
+  -- all labels are moved
+  pub bank_moved : (base : ℕ) (heads : List Money) (sheet : List V) (base' : ℕ) (heads' : List Money) (sheet' : List V) → ((v : ℕ) → v < nodes → label K heads' sheet' (base' + v) ≡ label K heads sheet (base + v)) →
+      bank K base' heads' sheet' ≡ bank K base heads sheet
+  bank_moved base heads sheet base' heads' sheet' h = fun_ext (λ v. ⊎_elim
+      (λ (l : v < nodes). bank_in base' heads' sheet' v l ∙ h v l ∙ sym (bank_in base heads sheet v l))
+      (λ (l : nodes ≤ v). bank_past base' heads' sheet' v l ∙ sym (bank_past base heads sheet v l)) (cases_lt v nodes))
+
+  -- all labels are zero
+  pub bank_blank : (base : ℕ) (heads : List Money) (sheet : List V) → ((v : ℕ) → v < nodes → label K heads sheet (base + v) ≡ (soft_kind K).none) → (v : ℕ) → bank K base heads sheet v ≡ (soft_kind K).none
+  bank_blank base heads sheet h v = ⊎_elim (λ (l : v < nodes). bank_in base heads sheet v l ∙ h v l) (λ (l : nodes ≤ v). bank_past base heads sheet v l) (cases_lt v nodes)

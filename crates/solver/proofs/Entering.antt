@@ -1,11 +1,11 @@
 -- A book more at a weekend: what the counts gain on the way up the classes. Assumes nothing.
-use Rattle.std.proofs.Common.{◌≡◌, ℕ, zero, suc, ◌+◌, ◌<◌, ◌≤◌, Bool, true, false, ◌&&◌, ◌||◌, eqb, List, length, set, sym, refl, ap, ◌∙◌, ⊎_elim, arith}
+use Rattle.std.proofs.Common.{◌≡◌, ℕ, zero, suc, ◌+◌, ◌<◌, ◌≤◌, Bool, true, false, ◌&&◌, ◌||◌, eqb, List, length, set, refl, ap, ◌∙◌, ⊎_elim, arith}
 use Rattle.std.proofs.lemmas.List.{get_or-set_same, get_or-set_other}
 use Rattle.std.proofs.lemmas.Bool.{cases_eq, cases_Bool, eq-eqb, eqb-true, and_from, and_parts}
 use Rattle.amounts.specs.Sums.{bit}
 use Rattle.plans.specs.Places.{at}
 use Rattle.plans.specs.Problem.{climbs}
-use Rattle.plans.proofs.Climbing.{climbs_two, climbs_le, climbs_top}
+use Rattle.plans.proofs.Climbing.{climbs_two, climbs_le}
 use Rattle.solver.specs.Residual.{node}
 
 -- one more at a place is one more at one node alone
@@ -50,9 +50,6 @@ module _ (parent : ℕ → ℕ) (root : parent 0 ≡ 0) (C : ℕ) (down : (c : �
   module _ (few : C ≤ 8) (counts : List ℕ) (long : length counts ≡ 128) (w₀ x : ℕ) (near : w₀ < 16) (known : x < C) (w c : ℕ) (h : c < 8) where
     here : at (set counts (node w₀ x) (at counts (node w₀ x) + 1)) (node w c) ≡ at counts (node w c) + bit (eqb w₀ w && eqb x c)
     here = raised counts w₀ x w c (omega arith) h (omega arith)
-
-    pub entered_last : x ≡ 0 → at (set counts (node w₀ x) (at counts (node w₀ x) + 1)) (node w c) ≡ at counts (node w c) + bit (eqb w₀ w && climbs parent x x c)
-    entered_last z = here ∙ ap (λ u. at counts (node w c) + bit (eqb w₀ w && u)) (sym (climbs_top parent root C down x c z))
 
     pub entered_more : (x ≡ 0 → ⊥) → (p after : ℕ) → p ≡ parent x → after ≡ at (set counts (node w₀ x) (at counts (node w₀ x) + 1)) (node w c) + bit (eqb w₀ w && climbs parent p p c) →
         after ≡ at counts (node w c) + bit (eqb w₀ w && climbs parent x x c)

@@ -1,5 +1,5 @@
 -- The labels of a start: they are given node by node, and where all are given they are valid. Assumes nothing.
-use Rattle.std.proofs.Common.{◌≡◌, ℕ, ◌+◌, ◌<◌, ◌≤◌, List, length, set, sym, refl, ap, ◌∙◌, subst₂, inr, ⊎_elim, arith}
+use Rattle.std.proofs.Common.{◌≡◌, ℕ, ◌+◌, ◌<◌, ◌≤◌, length, sym, refl, ap, ◌∙◌, subst, inr, ⊎_elim, arith}
 use Rattle.std.proofs.lemmas.Bool.{cases_lt, cases_eq, lt-ltb, le-ltb}
 use Rattle.amounts.specs.declared.money.Money.{Money}
 use Rattle.amounts.specs.declared.ranked.Ranked.{Ranked}
@@ -17,15 +17,15 @@ use Rattle.solver.specs.Soft.{rise, fall, soft_kind, violation, softened}
 use Rattle.solver.specs.Residual.{node, sink, above, LightLabels}
 use Rattle.solver.specs.Search.{nodes}
 use Rattle.solver.specs.Flows.{soft_charges, Stepped}
-use Rattle.solver.specs.Held.{label, bank, word_at, ShownIn}
+use Rattle.solver.specs.Held.{label, Memory, written, old_of, word_at, ShownIn}
 use Rattle.solver.specs.Starting.{Begun}
 use Rattle.solver.specs.Levels.{level, entry, under, Labelled, Flat}
 use Rattle.solver.proofs.Above.{above_root, above_other}
-use Rattle.solver.proofs.Adopted.{front_set}
-use Rattle.solver.proofs.Banks.{bank_first, bank_set_other}
+use Rattle.solver.proofs.Banks.{bank_first, bank_set_other, front_set}
 use Rattle.solver.proofs.Begin.{soft_fits, cold_valid}
 use Rattle.solver.proofs.Rises.{rise_under, rise_inside, rise_over, fall_under, fall_inside, fall_over}
 use Rattle.solver.proofs.Soft.{soft_lawful, one_light, one_positive}
+use Rattle.solver.specs.States.{sent_of, words_of}
 
 -- ---- the entry, case by case
 module _ {V : Type 0} (K : Kind V) (one : V) (lower upper m : ℕ) where
@@ -148,15 +148,18 @@ module _ {V : Type 0} {K : Kind V} (L : Lawful K) (B : Problem V) (f : ℕ → �
 -- ---- a label as it stands in the lists
 module _ {V : Type 0} (K : Kind V) (B : Problem V) (f : ℕ → ℕ) where
   -- what was read above
-  pub read_above : (heads : List Money) (sheet : List V) (w c u : ℕ) (x : Ranked Money V) → u ≤ 128 → u ≡ above B.parent w c → x ≡ label K heads sheet u → x ≡ bank K 0 heads sheet (above B.parent w c)
-  read_above heads sheet w c u x h e q = q ∙ sym (bank_first K heads sheet u (omega arith)) ∙ ap (bank K 0 heads sheet) e
+  pub read_above : (m : Memory V) (w c u : ℕ) (x : Ranked Money V) → u ≤ 128 → u ≡ above B.parent w c → x ≡ label K m.heads m.sheet u → x ≡ old_of K m (above B.parent w c)
+  read_above m w c u x h e q = q ∙ sym (bank_first K m.heads m.sheet u (omega arith)) ∙ ap (old_of K m) e
 
   -- what was written
-  pub labelled_write : (heads heads' : List Money) (sheet sheet' : List V) (w c : ℕ) (x : Ranked Money V) → node w c < nodes → length heads ≡ 258 → 258 ≤ length sheet →
-      heads' ≡ set heads (node w c) x.first → sheet' ≡ set sheet (node w c) x.second → x ≡ under K B f (bank K 0 heads sheet) w c → Labelled K B f (bank K 0 heads sheet) (bank K 0 heads' sheet') w c
-  labelled_write heads heads' sheet sheet' w c x ln hl sl h s e =
-      subst₂ (λ h s. Labelled K B f (bank K 0 heads sheet) (bank K 0 h s) w c) (sym h) (sym s)
-      (record { here = front_set K heads sheet (node w c) x ln hl sl ∙ e; others = λ v d. bank_set_other K 0 heads sheet (node w c) v x (λ _ z. d (omega arith)) })
+  pub labelled_write : (m m₁ m' : Memory V) (w c n : ℕ) (x : Ranked Money V) → m₁ ≡ m → n < nodes → n ≡ node w c → length m.heads ≡ 258 → 258 ≤ length m.sheet →
+      m' ≡ written m₁ n x → x ≡ under K B f (old_of K m) w c → Labelled K B f (old_of K m) (old_of K m') w c
+  labelled_write m m₁ m' w c n x same ln at_n hl sl is e =
+      let here : Labelled K B f (old_of K m) (old_of K (written m n x)) w c = record {
+        here = ap (old_of K (written m n x)) (sym at_n) ∙ front_set K m.heads m.sheet n x ln hl sl ∙ e;
+        others = λ v d. bank_set_other K 0 m.heads m.sheet n v x (λ _ z. d (omega arith));
+      } in
+      subst (λ m'. Labelled K B f (old_of K m) (old_of K m') w c) (sym (is ∙ ap (λ m. written m n x) same)) here
 
 -- ---- all labels are given, and the assignment is one that a search may start from
 pub flat_shown : {V : Type 0} {K : Kind V} (L : Lawful K) (source : Meaning V) (roster : Roster) (bounds : Bounds) (limit : V) (state : State) (l : ℕ → Ranked Money V) (n : ℕ) → Sound K (problem source roster bounds limit) →
@@ -168,7 +171,7 @@ flat_shown {K = K} L source roster bounds limit state l n s begun all i =
     record {
       light = light;
       inside = record { sent = begun.sent; meets = begun.own };
-      counts = λ w c lw lc. begun.counts w c (omega (arith, s.weekends)) (omega arith) ∙ sym ((assigned_is K source roster bounds limit state.sent).1 w c);
-      valid = cold_valid (soft_lawful L) (softened B) (soft_charges K B) (soft_fits L B s (λ w c _ _. bounds_straight bounds w c)) (word_at state.words) l (entry K B (at state.counts)) (at state.sent) (at state.counts) light begun.sent begun.fixed
+      counts = λ w c lw lc. begun.counts w c (omega (arith, s.weekends)) (omega arith) ∙ sym ((assigned_is K source roster bounds limit (sent_of state)).1 w c);
+      valid = cold_valid (soft_lawful L) (softened B) (soft_charges K B) (soft_fits L B s (λ w c _ _. bounds_straight bounds w c)) (word_at (words_of state)) l (entry K B (at state.counts)) (at (sent_of state)) (at state.counts) light begun.sent begun.fixed
           (λ w c lw lc. stepped L B (at state.counts) l w c (bounds_straight bounds w c) (i.labels w c lw lc (omega arith)));
     }

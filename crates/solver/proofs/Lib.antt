@@ -16,6 +16,8 @@ pub mod OneClass
 pub mod Stages
 pub mod Above
 pub mod Banks
+pub mod Marked
+pub mod Stated
 pub mod Offering
 pub mod Relaxed
 pub mod Outgoing
@@ -25,9 +27,7 @@ pub mod Sought
 pub mod Opening
 pub mod Entering
 pub mod Placing
-pub mod Adopted
 pub mod Augmented
-pub mod Blanked
 pub mod Retaken
 pub mod Widened
 pub mod Beginning

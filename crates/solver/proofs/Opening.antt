@@ -1,11 +1,9 @@
 -- Words of open weekends, weekend by weekend and book by book. Assumes nothing.
-use Rattle.std.proofs.Common.{◌≡◌, ℕ, zero, suc, ◌+◌, ◌^◌, ◌<◌, ◌≤◌, Bool, true, false, ◌&&◌, eqb, ltb, List, length, get_or, set, replicate, is_some, Option, sym, refl, ap, ◌∙◌, ⊎_elim, arith}
+use Rattle.std.proofs.Common.{◌≡◌, ℕ, zero, suc, ◌+◌, ◌^◌, ◌<◌, ◌≤◌, true, false, ◌&&◌, eqb, ltb, get_or, replicate, is_some, Option, sym, refl, ap, ◌∙◌, ⊎_elim, arith}
 use lib.Bits.{bit_or}
-use Rattle.std.proofs.lemmas.List.{get_or-set_same, get_or-set_other}
-use Rattle.std.proofs.lemmas.Bool.{cases_eq, cases_lt, lt-ltb, le-ltb, eq-eqb, ne_eqb, and_from, and_left, and_right, cond-true, cond-false}
+use Rattle.std.proofs.lemmas.Bool.{cases_eq, cases_lt, lt-ltb, le-ltb, eq-eqb, ne_eqb, and_from, and_right, cond-true, cond-false}
 use Rattle.sources.specs.Tables.{bit_at}
-use Rattle.sources.proofs.Bits16.{set_bit, bit_none}
-use Rattle.solver.specs.Held.{word_at}
+use Rattle.sources.proofs.Bits16.{set_bit}
 
 pub ltb_more : (i n : ℕ) → (i ≡ n → ⊥) → ltb i (n + 1) ≡ ltb i n
 ltb_more i n d =
@@ -13,11 +11,6 @@ ltb_more i n d =
     (λ (h : i < n). lt-ltb i (n + 1) (omega arith) ∙ sym (lt-ltb i n h))
     (λ (h : n ≤ i). le-ltb i (n + 1) (omega arith) ∙ sym (le-ltb i n h))
     (cases_lt i n)
-
--- where no test passes from n on, the tests below n are all
-pub below_all : (t : ℕ → Bool) (n : ℕ) → ((i : ℕ) → n ≤ i → t i ≡ false) → (u : Bool) (i : ℕ) → u ≡ (ltb i n && t i) → u ≡ t i
-below_all t n none u i e =
-    e ∙ ⊎_elim (λ (h : i < n). ap (λ x. x && t i) (lt-ltb i n h)) (λ (h : n ≤ i). and_right (ltb i n) (t i) (none i h) ∙ sym (none i h)) (cases_lt i n)
 
 -- one more weekend of a book's word, shut or open
 module _ {V : Type 0} (row : ℕ → Option V) (n word : ℕ) (before : (w : ℕ) → bit_at word w ≡ (ltb w n && is_some (row w))) (q : Option V) (is : q ≡ row n) where
@@ -47,16 +40,3 @@ pub get_or_same : {X : Type 0} (x : X) (n i : ℕ) → get_or (replicate n x) i 
 get_or_same x zero i = refl
 get_or_same x (suc n) zero = refl
 get_or_same x (suc n) (suc i) = get_or_same x n i
-
--- words of no book
-pub words_none : (t : ℕ → ℕ → Bool) (n : ℕ) (b w : ℕ) → word_at (replicate n 0) b w ≡ (ltb b 0 && t b w)
-words_none t n b w = ap (λ word. bit_at word w) (get_or_same 0 n b) ∙ bit_none w ∙ sym (and_left (ltb b 0) (t b w) (le-ltb b 0 (omega arith)))
-
--- the word of one more book
-pub words_more : (t : ℕ → ℕ → Bool) (n : ℕ) (words : List ℕ) (word : ℕ) → ((b w : ℕ) → word_at words b w ≡ (ltb b n && t b w)) → n < length words → ((w : ℕ) → bit_at word w ≡ t n w) →
-    (b w : ℕ) → word_at (set words n word) b w ≡ (ltb b (n + 1) && t b w)
-words_more t n words word before within bits b w =
-    ⊎_elim
-    (λ (e : b ≡ n). rw e (ap (λ x. bit_at x w) (get_or-set_same words n word 0 within) ∙ bits w ∙ ap (λ x. x && t n w) (sym (lt-ltb n (n + 1) (omega arith)))))
-    (λ (d : b ≡ n → ⊥). ap (λ x. bit_at x w) (get_or-set_other words n b word 0 d) ∙ before b w ∙ ap (λ x. x && t b w) (sym (ltb_more b n d)))
-    (cases_eq b n)

@@ -1,24 +1,20 @@
 -- Every book is given its word, one after another; and what it is to have solved a problem, in terms of open pairs. Assumes nothing.
-use Rattle.std.proofs.Common.{◌≡◌, ℕ, ◌+◌, ◌<◌, ◌≤◌, List, length, get_or, set, replicate, pos, sym, ap, ◌∙◌, subst, ⊎_elim, arith}
-use Rattle.std.proofs.lemmas.List.{get_or-set_same, get_or-set_other, get_or-replicate}
-use Rattle.std.proofs.lemmas.Bool.{cases_eq, cases_lt}
+use Rattle.std.proofs.Common.{◌≡◌, ℕ, ◌+◌, ◌<◌, List, length, get_or, set, sym, ap, ◌∙◌, subst, ⊎_elim, arith}
+use Rattle.std.proofs.lemmas.List.{get_or-set_same, get_or-set_other}
+use Rattle.std.proofs.lemmas.Bool.{cases_eq}
 use Rattle.amounts.specs.declared.money.Money.{Money}
 use Rattle.amounts.specs.declared.ranked.Ranked.{Ranked}
 use Rattle.amounts.specs.Kind.{Kind, Lawful}
-use Rattle.amounts.specs.Sums.{item}
-use Rattle.amounts.specs.Models.{money, ranked}
 use Rattle.sources.specs.Tables.{bit_at}
 use Rattle.plans.specs.Places.{at}
 use Rattle.plans.specs.Problem.{Problem, is_open}
 use Rattle.plans.specs.Theorems.{Sound}
 use Rattle.solver.specs.declared.state.State.{State}
-use Rattle.solver.specs.Soft.{soft_kind}
-use Rattle.solver.specs.Search.{nodes}
 use Rattle.solver.specs.Flows.{Straight, Shown}
-use Rattle.solver.specs.Held.{bank, word_at}
+use Rattle.solver.specs.Held.{word_at}
 use Rattle.solver.specs.Solutions.{LeastAssignment, SolvedIn}
-use Rattle.solver.proofs.Banks.{bank_in, bank_past}
 use Rattle.solver.proofs.Violations.{least_in_score}
+use Rattle.solver.specs.States.{sent_of}
 
 -- the first n words are those of `words`
 abbrev pub Widened : List ℕ → List ℕ → ℕ → Type 0
@@ -29,23 +25,17 @@ widened_more words now next n l e h b x lb = ⊎_elim
     (λ (q : b ≡ n). subst (λ b. word_at next b x ≡ word_at words b x) (sym q) (ap (λ ws. word_at ws n x) e ∙ ap (λ w. bit_at w x) (get_or-set_same now n (get_or words n 0) 0 l)))
     (λ (d : b ≡ n → ⊥). ap (λ ws. word_at ws b x) e ∙ ap (λ w. bit_at w x) (get_or-set_other now n b (get_or words n 0) 0 d) ∙ h b x (omega arith)) (cases_eq b n)
 
--- a sheet of zeros and no violations are labels that are zero
-pub blank_labels : {V : Type 0} (K : Kind V) (sheet : List V) → ((i : ℕ) → item K sheet i ≡ K.none) → (v : ℕ) → bank K 0 (replicate 258 (money (pos 0))) sheet v ≡ (soft_kind K).none
-blank_labels K sheet none v = ⊎_elim
-    (λ (l : v < nodes). bank_in K 0 (replicate 258 (money (pos 0))) sheet v l ∙ ap (λ h. ranked h (item K sheet (0 + v))) (get_or-replicate 258 (0 + v) (money (pos 0)) (money (pos 0)) (omega arith)) ∙ ap (ranked (money (pos 0))) (none (0 + v)))
-    (λ (l : nodes ≤ v). bank_past K 0 (replicate 258 (money (pos 0))) sheet v l) (cases_lt v nodes)
-
 module _ {V : Type 0} {K : Kind V} (L : Lawful K) (B : Problem V) (s : Sound K B) (straight : Straight K B) where
   -- where each word has just the open weekends, the labels show the assignment among all
-  pub shown_open : (state : State) (l : ℕ → Ranked Money V) → SolvedIn K B state l → Shown K B (is_open B) l (at state.sent) (at state.counts)
+  pub shown_open : (state : State) (l : ℕ → Ranked Money V) → SolvedIn K B state l → Shown K B (is_open B) l (at (sent_of state)) (at state.counts)
   shown_open state l x = record {
     light = x.held.light;
-    inside = record { sent = x.held.inside.sent; meets = λ b lb. sym (x.words b (at state.sent b) lb) ∙ x.held.inside.meets b lb };
+    inside = record { sent = x.held.inside.sent; meets = λ b lb. sym (x.words b (at (sent_of state) b) lb) ∙ x.held.inside.meets b lb };
     counts = x.held.counts;
     valid = record { rising = x.held.valid.rising; falling = x.held.valid.falling; moved = λ b y lb ly m. x.held.valid.moved b y lb ly (x.words b y lb ∙ m) };
   }
 
-  pub least_of_lem : (state : State) (l : ℕ → Ranked Money V) → SolvedIn K B state l → LeastAssignment K B (at state.sent)
+  pub least_of_lem : (state : State) (l : ℕ → Ranked Money V) → SolvedIn K B state l → LeastAssignment K B (at (sent_of state))
   least_of_lem state l x =
       let shown = shown_open state l x in
-      record { inside = shown.inside; least = λ q h. least_in_score L B s straight (is_open B) l (at state.sent) (at state.counts) q shown h; shown = (l, at state.counts, shown) }
+      record { inside = shown.inside; least = λ q h. least_in_score L B s straight (is_open B) l (at (sent_of state)) (at state.counts) q shown h; shown = (l, at state.counts, shown) }

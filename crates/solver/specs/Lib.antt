@@ -5,6 +5,8 @@ pub mod Search
 pub mod Walk
 pub mod Flows
 pub mod OneClass
+pub mod States
+pub mod Choosing
 pub mod Held
 pub mod Starting
 pub mod Levels

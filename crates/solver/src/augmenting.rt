@@ -1,58 +1,60 @@
 // The walk that takes a book to its new place, back along the arcs by which a search reached the nodes.
-ghost use Rattle.std.specs.Prelude.{◌≡◌, ◌<◌, ◌≤◌, length, None, slice_index_or, slice_set};
+ghost use Rattle.std.specs.Prelude.{◌≡◌, ◌<◌, slice_set};
 ghost use Rattle.plans.specs.Places.{at};
 ghost use Rattle.solver.specs.Residual.{tail};
-ghost use Rattle.solver.specs.Held.{memory, old_of, posed_by, ShownIn, Walkable};
-ghost use Rattle.solver.specs.Undone.{Undoable, HasPlace, undone, placed};
+ghost use Rattle.solver.specs.Held.{memory_of, old_of, posed_by, ShownIn, via_of, Walkable};
+ghost use Rattle.solver.specs.Undone.{Put, Undoable, Undone};
+ghost use Rattle.solver.specs.States.{sent_of, words_of};
 
 use crate::arcs::Arc;
 use crate::graph::Graph;
 use crate::labels::Labels;
-use crate::nodes::{above, node_of};
+use crate::nodes::Spot;
 use crate::state::State;
-use crate::trail::Trail;
+use amounts::Amount;
 use sources::Source;
 
-// The arc by which a node was reached; none where a search started.
-fn reached_by(trail: &Trail, node: usize) -> Option<Arc>
-    requires { node < 129 }
-    ensures { result ≡ slice_index_or trail.now.arcs node None }
-{
-    trail.arcs[node]
+impl<'a, X: Amount> Labels<'a, X> {
+    // The arc by which a node was reached; none where a search started.
+    fn reached_by(&self, node: usize) -> Option<Arc>
+        requires { node < 129 }
+        ensures { result ≡ via_of (memory_of self.now) node }
+    {
+        self.marks[node]?.arc
+    }
 }
 
 // Puts the book at the weekend, and gives it its new word.
-fn place(state: &mut State, book: usize, weekend: usize, into: u16)
+fn put(state: &mut State, book: usize, weekend: usize, into: u16)
     requires { (book < 120) × (weekend < 16) }
-    ensures places { (book < length state.old.sent) × (book < length state.old.words) }
-    ensures after { state.new ≡ placed state.old book weekend into }
+    ensures { Put state.old state.new book weekend into }
 {
-    state.sent[book] = weekend as u8;
-    state.words[book] = into;
+    state.send(book, weekend);
+    state.widen(book, into);
 }
 
 impl<'a, S: Source> Graph<'a, S> {
     // Undoes the arc that leads to the hole, and answers the node that it comes from: the hole is there now.
     fn undo(&self, state: &mut State, arc: Arc) -> usize
         requires { Undoable self.now.roster.now.classes state.old arc }
-        ensures next { result ≡ tail (posed_by S.Source S.Quote.Amount.kind self.now) (at state.old.sent) arc }
-        ensures place { HasPlace state.old arc }
-        ensures after { state.new ≡ undone state.old arc }
+        ensures next { result ≡ tail (posed_by S.Source S.Quote.Amount.kind self.now) (at (sent_of state.old)) arc }
+        ensures after { Undone state.old state.new arc }
     {
         match arc {
             Arc::Rise(weekend, class) => {
-                let node = node_of(weekend, class);
+                let node = Spot { weekend, class }.node();
                 state.counts[node] += 1;
                 node
             }
             Arc::Fall(weekend, class) => {
-                state.counts[node_of(weekend, class)] -= 1;
-                above(self.roster, weekend, class)
+                let spot = Spot { weekend, class };
+                state.counts[spot.node()] -= 1;
+                spot.above(self.roster)
             }
             Arc::Move(book, weekend) => {
-                let node = node_of(usize::from(state.sent[book]), self.roster.class_of(book));
-                state.sent[book] = weekend as u8;
-                node
+                let from = state.spot_of(self.roster, book);
+                state.send(book, weekend);
+                from.node()
             }
         }
     }
@@ -64,23 +66,18 @@ impl<'a, S: Source> Graph<'a, S> {
         &self,
         state: &mut State,
         labels: &mut Labels<'_, S::Quote>,
-        trail: &Trail,
         book: usize,
         into: u16,
     )
-        requires walkable { Walkable S.Quote.Amount.kind (posed_by S.Source S.Quote.Amount.kind self.now) state.old (memory labels.old.heads labels.old.sheet.now trail.now) book into }
-        requires room { 258 ≤ length labels.old.sheet.now }
-        ensures shown { ShownIn S.Quote.Amount.kind (posed_by S.Source S.Quote.Amount.kind self.now) state.new (old_of S.Quote.Amount.kind (memory labels.new.heads labels.new.sheet.now trail.now)) }
-        ensures words { state.new.words ≡ slice_set state.old.words book into }
-        ensures place { book < length state.old.words }
-        ensures long { length labels.new.sheet.now ≡ length labels.old.sheet.now }
-        ensures same { labels.new.sheet.ghost_name ≡ labels.old.sheet.ghost_name }
+        requires { Walkable S.Quote.Amount.kind (posed_by S.Source S.Quote.Amount.kind self.now) state.old (memory_of labels.old) book into }
+        ensures shown { ShownIn S.Quote.Amount.kind (posed_by S.Source S.Quote.Amount.kind self.now) state.new (old_of S.Quote.Amount.kind (memory_of labels.new)) }
+        ensures words { words_of state.new ≡ slice_set (words_of state.old) book into }
     {
-        let mut hole = node_of(usize::from(state.sent[book]), self.roster.class_of(book));
-        while let Some(arc) = reached_by(trail, hole) {
+        let mut hole = state.spot_of(self.roster, book).node();
+        while let Some(arc) = labels.reached_by(hole) {
             hole = self.undo(state, arc);
         }
-        place(state, book, hole / 8, into);
+        put(state, book, Spot::of(hole).weekend, into);
         labels.adopt();
     }
 }

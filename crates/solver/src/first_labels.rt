@@ -1,19 +1,18 @@
 // The labels of a start: where no book may move yet, bounds and counts alone give labels that are valid.
-ghost use Rattle.std.specs.Prelude.{◌≡◌, ℕ, ◌+◌, ◌<◌, ◌≤◌, length};
+ghost use Rattle.std.specs.Prelude.{◌≡◌, ℕ, ◌+◌, ◌<◌};
 ghost use Rattle.plans.specs.Places.{at};
 ghost use Rattle.plans.specs.Posed.{meaning};
 ghost use Rattle.plans.specs.Theorems.{Sound};
 ghost use Rattle.solver.specs.Soft.{soft_kind, violation as the_violation};
 ghost use Rattle.solver.specs.Residual.{node as the_node};
-ghost use Rattle.solver.specs.Held.{bank, posed_by, ShownIn};
+ghost use Rattle.solver.specs.Held.{memory_of, old_of, posed_by, ShownIn, Stands};
 ghost use Rattle.solver.specs.Starting.{Begun};
 ghost use Rattle.solver.specs.Levels.{level as the_level, Labelled, Flat};
 
-use crate::graph::Graph;
+use crate::graph::Residual;
 use crate::labels::Labels;
 use crate::network::violation;
-use crate::nodes::{above, node_of};
-use crate::state::State;
+use crate::nodes::Spot;
 use amounts::{Amount, Money, Ranked};
 use sources::Source;
 
@@ -31,57 +30,41 @@ fn level<X: Amount>(lower: usize, upper: usize, members: usize) -> Ranked<Money,
     }
 }
 
-impl<'a, S: Source> Graph<'a, S> {
-    // Gives the node of a class at a weekend its label, from that of the node above.
-    fn label_class(
-        &self,
-        state: &State,
-        labels: &mut Labels<'_, S::Quote>,
-        weekend: usize,
-        class: usize,
-    )
-        requires weekend { weekend < S.Source.weeks self.now.source.now }
-        requires class { class < self.now.roster.now.classes }
-        requires room { 258 ≤ length labels.old.sheet.now }
-        ensures labelled { Labelled S.Quote.Amount.kind (posed_by S.Source S.Quote.Amount.kind self.now) (at state.now.counts) (bank S.Quote.Amount.kind 0 labels.old.heads labels.old.sheet.now) (bank S.Quote.Amount.kind 0 labels.new.heads labels.new.sheet.now) weekend class }
-        ensures long { length labels.new.sheet.now ≡ length labels.old.sheet.now }
-        ensures same { labels.new.sheet.ghost_name ≡ labels.old.sheet.ghost_name }
+impl<'a, S: Source> Residual<'a, S> {
+    // Gives the node of a spot its label, from that of the node above.
+    fn label_spot(&self, labels: &mut Labels<'_, S::Quote>, spot: Spot)
+        requires { Stands (posed_by S.Source S.Quote.Amount.kind self.now.graph.now) spot }
+        ensures { Labelled S.Quote.Amount.kind (posed_by S.Source S.Quote.Amount.kind self.now.graph.now) (at self.now.state.now.counts) (old_of S.Quote.Amount.kind (memory_of labels.old)) (old_of S.Quote.Amount.kind (memory_of labels.new)) spot.weekend spot.class }
     {
-        let node = node_of(weekend, class);
-        let lower = self.bounds.lower(weekend, class);
-        let upper = self.bounds.upper(weekend, class);
-        let entry = level::<S::Quote>(lower, upper, state.counts[node]);
-        let over = labels.read(above(self.roster, weekend, class));
+        let node = spot.node();
+        let lower = self.graph.bounds.lower(spot.weekend, spot.class);
+        let upper = self.graph.bounds.upper(spot.weekend, spot.class);
+        let entry = level::<S::Quote>(lower, upper, self.state.counts[node]);
+        let over = labels.read(spot.above(self.graph.roster));
         labels.write(node, over.sum(entry.opposite()));
     }
 
     // Gives the nodes of a weekend their labels. A parent has a smaller number than its classes, so that its label is there before theirs.
-    fn label_weekend(&self, state: &State, labels: &mut Labels<'_, S::Quote>, weekend: usize)
-        requires weekend { weekend < S.Source.weeks self.now.source.now }
-        requires room { 258 ≤ length labels.old.sheet.now }
-        requires sound { Sound S.Quote.Amount.kind (posed_by S.Source S.Quote.Amount.kind self.now) }
-        requires flat { Flat S.Quote.Amount.kind (posed_by S.Source S.Quote.Amount.kind self.now) (at state.now.counts) (bank S.Quote.Amount.kind 0 labels.old.heads labels.old.sheet.now) (the_node weekend 0) }
-        ensures flat { Flat S.Quote.Amount.kind (posed_by S.Source S.Quote.Amount.kind self.now) (at state.now.counts) (bank S.Quote.Amount.kind 0 labels.new.heads labels.new.sheet.now) (the_node (weekend + 1) 0) }
-        ensures long { length labels.new.sheet.now ≡ length labels.old.sheet.now }
-        ensures same { labels.new.sheet.ghost_name ≡ labels.old.sheet.ghost_name }
+    fn label_weekend(&self, labels: &mut Labels<'_, S::Quote>, weekend: usize)
+        requires weekend { weekend < S.Source.weeks self.now.graph.now.source.now }
+        requires sound { Sound S.Quote.Amount.kind (posed_by S.Source S.Quote.Amount.kind self.now.graph.now) }
+        requires flat { Flat S.Quote.Amount.kind (posed_by S.Source S.Quote.Amount.kind self.now.graph.now) (at self.now.state.now.counts) (old_of S.Quote.Amount.kind (memory_of labels.old)) (the_node weekend 0) }
+        ensures { Flat S.Quote.Amount.kind (posed_by S.Source S.Quote.Amount.kind self.now.graph.now) (at self.now.state.now.counts) (old_of S.Quote.Amount.kind (memory_of labels.new)) (the_node (weekend + 1) 0) }
     {
-        for class in 0..self.roster.classes() {
-            self.label_class(state, labels, weekend, class);
+        for class in 0..self.graph.roster.classes() {
+            self.label_spot(labels, Spot { weekend, class });
         }
     }
 
     // Gives every node its label, where all labels are zero at first and each word has only the weekend of its book.
-    pub(crate) fn first_labels(&self, state: &State, labels: &mut Labels<'_, S::Quote>)
-        requires room { 258 ≤ length labels.old.sheet.now }
-        requires blank { (v : ℕ) → bank S.Quote.Amount.kind 0 labels.old.heads labels.old.sheet.now v ≡ (soft_kind S.Quote.Amount.kind).none }
-        requires sound { Sound S.Quote.Amount.kind (posed_by S.Source S.Quote.Amount.kind self.now) }
-        requires begun { Begun (meaning S.Source self.now.source.now) self.now.roster.now state.now }
-        ensures shown { ShownIn S.Quote.Amount.kind (posed_by S.Source S.Quote.Amount.kind self.now) state.now (bank S.Quote.Amount.kind 0 labels.new.heads labels.new.sheet.now) }
-        ensures long { length labels.new.sheet.now ≡ length labels.old.sheet.now }
-        ensures same { labels.new.sheet.ghost_name ≡ labels.old.sheet.ghost_name }
+    pub(crate) fn first_labels(&self, labels: &mut Labels<'_, S::Quote>)
+        requires blank { (v : ℕ) → old_of S.Quote.Amount.kind (memory_of labels.old) v ≡ (soft_kind S.Quote.Amount.kind).none }
+        requires sound { Sound S.Quote.Amount.kind (posed_by S.Source S.Quote.Amount.kind self.now.graph.now) }
+        requires begun { Begun (meaning S.Source self.now.graph.now.source.now) self.now.graph.now.roster.now self.now.state.now }
+        ensures { ShownIn S.Quote.Amount.kind (posed_by S.Source S.Quote.Amount.kind self.now.graph.now) self.now.state.now (old_of S.Quote.Amount.kind (memory_of labels.new)) }
     {
-        for weekend in 0..self.source.weekends() {
-            self.label_weekend(state, labels, weekend);
+        for weekend in 0..self.graph.source.weekends() {
+            self.label_weekend(labels, weekend);
         }
     }
 }

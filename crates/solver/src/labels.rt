@@ -1,13 +1,13 @@
-// The label table of a search, over a lent sheet of amounts.
+// The table of a search, over a lent sheet of amounts: labels, and marks.
 ghost use Rattle.std.specs.Prelude.{◌≡◌, ℕ, ◌<◌, ◌≤◌, length, slice_set};
 ghost use Rattle.amounts.specs.Sums.{item};
-ghost use Rattle.solver.specs.Soft.{soft_kind};
-ghost use Rattle.solver.specs.Held.{bank, label as the_label};
 
+use crate::marks::Mark;
 use crate::nodes::{NEW, NODES};
 use amounts::{Amount, Money, Ranked};
 
 // What stands at a place of a lent sheet.
+// Stays: a lent sheet is passed on for writing, also where it is only read.
 fn read_at<X: Amount>(sheet: &mut [X], place: usize) -> X
     requires { place < length sheet.old }
     ensures read { result ≡ item X.Amount.kind sheet.old place }
@@ -24,44 +24,55 @@ fn write_at<X: Amount>(sheet: &mut [X], place: usize, amount: X)
 }
 
 // Zero at every place of a lent sheet.
-fn clear_all<X: Amount>(sheet: &mut [X])
+pub(crate) fn clear_all<X: Amount>(sheet: &mut [X])
     ensures { (i : ℕ) → item X.Amount.kind sheet.new i ≡ X.Amount.kind.none }
 {
-    for amount in sheet.iter_mut() {
-        *amount = X::zero();
-    }
+    sheet.fill_with(|| X::zero());
 }
 
-// A label is an amount behind a number of violations. The violations stand in an array, the amounts at the same places of the lent sheet. The first 129
-// places have the labels that are valid, one for each node, and the next 129 those that a search is finding.
+// Zero at the places of the labels that a search is to find, and behind them.
+fn clear_new<X: Amount>(sheet: &mut [X])
+    requires { 129 ≤ length sheet.old }
+    ensures old { (i : ℕ) → i < 129 → item X.Amount.kind sheet.new i ≡ item X.Amount.kind sheet.old i }
+    ensures new { (i : ℕ) → 129 ≤ i → item X.Amount.kind sheet.new i ≡ X.Amount.kind.none }
+{
+    let (_, new) = sheet.split_at_mut(NEW);
+    clear_all(new);
+}
+
+// A label is an amount behind a number of violations. The first 129 places have the labels that are valid, one for each node, and the next 129 those that a
+// search is finding. Each node that has a label in the search has a mark.
+// Stays: violations and amounts are in two lists, since the lent sheet has room for amounts alone.
 #[derive(Drop)]
 pub(crate) struct Labels<'a, X> {
     pub(crate) heads: [Money; 258],
     pub(crate) sheet: &'a mut [X],
+    pub(crate) marks: [Option<Mark>; 129],
+    ghost sized: { (length heads ≡ 258) × (258 ≤ length sheet.now) × (length marks ≡ 129) },
 }
 
 impl<'a, X: Amount> Labels<'a, X> {
-    // All labels zero, over a sheet of at least 258 places.
+    ghost use Rattle.std.specs.Prelude.{replicate};
+    ghost use Rattle.solver.specs.Soft.{soft_kind};
+    ghost use Rattle.solver.specs.Held.{label as the_label, memory_of, new_of, old_of, written};
+
+    // All labels zero, and no marks.
     pub(crate) fn over(sheet: &'a mut [X]) -> Self
-        ensures blank { (v : ℕ) → bank X.Amount.kind 0 result.heads result.sheet.now v ≡ (soft_kind X.Amount.kind).none }
-        ensures long { length result.sheet.now ≡ length sheet.old }
-        ensures same { result.sheet.ghost_name ≡ sheet.entry.ghost_name }
+        requires { 258 ≤ length sheet.old }
+        ensures { (v : ℕ) → old_of X.Amount.kind (memory_of result) v ≡ (soft_kind X.Amount.kind).none }
     {
         clear_all(&mut *sheet);
         Labels {
             heads: [Money { value: 0 }; 258],
             sheet,
+            marks: [None; 129],
         }
     }
 
     pub(crate) fn read(&mut self, place: usize) -> Ranked<Money, X>
-        requires within { place < 258 }
-        requires room { 258 ≤ length self.old.sheet.now }
+        requires { place < 258 }
         ensures read { result ≡ the_label X.Amount.kind self.old.heads self.old.sheet.now place }
-        ensures places { length self.old.heads ≡ 258 }
-        ensures heads { self.new.heads ≡ self.old.heads }
-        ensures sheet { self.new.sheet.now ≡ self.old.sheet.now }
-        ensures same { self.new.sheet.ghost_name ≡ self.old.sheet.ghost_name }
+        ensures same { memory_of self.new ≡ memory_of self.old }
     {
         Ranked {
             first: self.heads[place],
@@ -70,12 +81,8 @@ impl<'a, X: Amount> Labels<'a, X> {
     }
 
     pub(crate) fn write(&mut self, place: usize, label: Ranked<Money, X>)
-        requires within { place < 258 }
-        requires room { 258 ≤ length self.old.sheet.now }
-        ensures places { length self.old.heads ≡ 258 }
-        ensures heads { self.new.heads ≡ slice_set self.old.heads place label.first }
-        ensures sheet { self.new.sheet.now ≡ slice_set self.old.sheet.now place label.second }
-        ensures same { self.new.sheet.ghost_name ≡ self.old.sheet.ghost_name }
+        requires { place < 258 }
+        ensures { memory_of self.new ≡ written (memory_of self.old) place label }
     {
         self.heads[place] = label.first;
         write_at(&mut *self.sheet, place, label.second);
@@ -83,37 +90,20 @@ impl<'a, X: Amount> Labels<'a, X> {
 
     // The labels that a search has found become those that are valid.
     pub(crate) fn adopt(&mut self)
-        requires room { 258 ≤ length self.old.sheet.now }
-        ensures old { bank X.Amount.kind 0 self.new.heads self.new.sheet.now ≡ bank X.Amount.kind 129 self.old.heads self.old.sheet.now }
-        ensures new { bank X.Amount.kind 129 self.new.heads self.new.sheet.now ≡ bank X.Amount.kind 129 self.old.heads self.old.sheet.now }
-        ensures long { length self.new.sheet.now ≡ length self.old.sheet.now }
-        ensures same { self.new.sheet.ghost_name ≡ self.old.sheet.ghost_name }
+        ensures { old_of X.Amount.kind (memory_of self.new) ≡ new_of X.Amount.kind (memory_of self.old) }
     {
-        for node in 0..NODES {
-            let label = self.read(NEW + node);
-            self.write(node, label);
-        }
+        self.heads.copy_within(NEW.., 0);
+        self.sheet.copy_within(NEW..NEW + NODES, 0);
     }
 
-    // Zero for every label that a search is to find.
-    pub(crate) fn reset(&mut self)
-        requires room { 258 ≤ length self.old.sheet.now }
-        ensures new { (v : ℕ) → bank X.Amount.kind 129 self.new.heads self.new.sheet.now v ≡ (soft_kind X.Amount.kind).none }
-        ensures old { bank X.Amount.kind 0 self.new.heads self.new.sheet.now ≡ bank X.Amount.kind 0 self.old.heads self.old.sheet.now }
-        ensures long { length self.new.sheet.now ≡ length self.old.sheet.now }
-        ensures same { self.new.sheet.ghost_name ≡ self.old.sheet.ghost_name }
+    // Zero for every label that a search is to find, and the same mark for all nodes, or none.
+    pub(crate) fn reset(&mut self, mark: Option<Mark>)
+        ensures new { (v : ℕ) → new_of X.Amount.kind (memory_of self.new) v ≡ (soft_kind X.Amount.kind).none }
+        ensures old { old_of X.Amount.kind (memory_of self.new) ≡ old_of X.Amount.kind (memory_of self.old) }
+        ensures marks { self.new.marks ≡ replicate 129 mark }
     {
-        for node in 0..NODES {
-            self.write(NEW + node, Ranked::<Money, X>::zero());
-        }
-    }
-
-    // Zero at every place of the sheet: what a search leaves behind.
-    pub(crate) fn clear(&mut self)
-        ensures cleared { (i : ℕ) → item X.Amount.kind self.new.sheet.now i ≡ X.Amount.kind.none }
-        ensures long { length self.new.sheet.now ≡ length self.old.sheet.now }
-        ensures same { self.new.sheet.ghost_name ≡ self.old.sheet.ghost_name }
-    {
-        clear_all(&mut *self.sheet);
+        clear_new(&mut self.heads);
+        clear_new(&mut *self.sheet);
+        self.marks = [mark; 129];
     }
 }

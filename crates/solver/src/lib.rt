@@ -3,11 +3,13 @@
 
 mod arcs;
 mod augmenting;
+mod choices;
 mod counts;
 mod first_labels;
 mod flow_promises;
 mod graph;
 mod labels;
+mod marks;
 mod network;
 mod nodes;
 mod offers;
@@ -15,12 +17,11 @@ mod open_words;
 mod reassigning;
 mod relaxing;
 mod searching;
-mod solution;
 mod solving;
 mod start;
 mod starting;
 mod state;
-mod trail;
+mod unsolved;
 mod words;
 
 pub use arcs::Arc;
@@ -28,5 +29,5 @@ pub use flow_promises::{
     class_searches_stand, hole_stands, labels_stand, searches_stand, soft_bounds_stand,
 };
 pub use network::{fall, rise, violation};
-pub use solution::Solution;
 pub use solving::solve;
+pub use unsolved::Unsolved;

@@ -1,20 +1,19 @@
 // The pairs that a source has open, one word for each book.
 ghost use Rattle.std.specs.Prelude.{◌≡◌, ℕ, ◌^◌, ◌<◌, ◌≤◌, is_some, IfSome};
 ghost use Rattle.sources.specs.Tables.{bit_at};
-ghost use Rattle.solver.specs.Held.{word_at};
+ghost use Rattle.solver.specs.Held.{word_at, WordOf};
 
 use amounts::Amount;
 use sources::Source;
 
 // Bit w of the word is set where the book is open at weekend w. What asking promises of the amounts is then known of all the book's pairs.
 fn open_word<S: Source>(source: &S, book: usize) -> u16
-    ensures bits { (w : ℕ) → bit_at result w ≡ is_some (S.Source.table source.now book w) }
-    ensures light { (w : ℕ) → w < S.Source.weeks source.now → IfSome (S.Source.table source.now book w) (λ x. S.Quote.Amount.kind.weight x ≤ 10 ^ 9) }
+    ensures { WordOf S.Quote.Amount.kind (S.Source.table source.now book) (S.Source.weeks source.now) result }
 {
     let mut word: u16 = 0;
     for weekend in 0..source.weekends() {
         if source.quote(book, weekend).is_some() {
-            word = word | (1 << weekend);
+            word |= 1 << weekend;
         }
     }
     word
@@ -25,9 +24,9 @@ pub(crate) fn open_words<S: Source>(source: &S) -> [u16; 120]
     ensures bits { (b w : ℕ) → word_at result b w ≡ is_some (S.Source.table source.now b w) }
     ensures light { (b w : ℕ) → b < S.Source.count source.now → w < S.Source.weeks source.now → IfSome (S.Source.table source.now b w) (λ x. S.Quote.Amount.kind.weight x ≤ 10 ^ 9) }
 {
-    let mut words: [u16; 120] = [0; 120];
-    for book in 0..source.books() {
-        words[book] = open_word(source, book);
+    let mut words = [0; 120];
+    for (book, word) in words.iter_mut().enumerate() {
+        *word = open_word(source, book);
     }
     words
 }

@@ -1,28 +1,18 @@
 // One book is given other weekends to go to, and taken to where that is best; and labels are found anew.
-ghost use Rattle.std.specs.Prelude.{◌≡◌, ℕ, ◌<◌, ◌≤◌, true, length, slice_set};
+ghost use Rattle.std.specs.Prelude.{◌≡◌, ℕ, ◌<◌, true, slice_set};
 ghost use Rattle.amounts.specs.Kind.{AtMost};
 ghost use Rattle.sources.specs.Tables.{bit_at};
 ghost use Rattle.plans.specs.Theorems.{Sound};
 ghost use Rattle.solver.specs.Soft.{soft_kind};
-ghost use Rattle.solver.specs.Held.{bank, posed_by, ShownIn};
+ghost use Rattle.solver.specs.Held.{memory_of, old_of, posed_by, ShownIn};
+ghost use Rattle.solver.specs.States.{words_of};
 
-use crate::graph::Graph;
+use crate::graph::{Graph, Residual};
 use crate::labels::Labels;
+use crate::marks::Mark;
 use crate::state::State;
-use crate::trail::Trail;
 use amounts::Amount;
 use sources::Source;
-
-// Gives a book its word.
-fn widen(state: &mut State, book: usize, into: u16)
-    requires { book < 120 }
-    ensures sent { state.new.sent ≡ state.old.sent }
-    ensures counts { state.new.counts ≡ state.old.counts }
-    ensures words { state.new.words ≡ slice_set state.old.words book into }
-    ensures place { book < length state.old.words }
-{
-    state.words[book] = into;
-}
 
 impl<'a, S: Source> Graph<'a, S> {
     // Lets a book go to the weekends of a word. The labels show that the assignment is least among those inside the words, before and after.
@@ -36,36 +26,37 @@ impl<'a, S: Source> Graph<'a, S> {
         requires book { book < S.Source.count self.now.source.now }
         requires some { (x : ℕ) × (x < S.Source.weeks self.now.source.now) × (bit_at into x ≡ true) }
         requires sound { Sound S.Quote.Amount.kind (posed_by S.Source S.Quote.Amount.kind self.now) }
-        requires shown { ShownIn S.Quote.Amount.kind (posed_by S.Source S.Quote.Amount.kind self.now) state.old (bank S.Quote.Amount.kind 0 labels.old.heads labels.old.sheet.now) }
-        requires room { 258 ≤ length labels.old.sheet.now }
-        ensures shown { ShownIn S.Quote.Amount.kind (posed_by S.Source S.Quote.Amount.kind self.now) state.new (bank S.Quote.Amount.kind 0 labels.new.heads labels.new.sheet.now) }
-        ensures words { state.new.words ≡ slice_set state.old.words book into }
-        ensures place { book < length state.old.words }
-        ensures long { length labels.new.sheet.now ≡ length labels.old.sheet.now }
-        ensures same { labels.new.sheet.ghost_name ≡ labels.old.sheet.ghost_name }
+        requires shown { ShownIn S.Quote.Amount.kind (posed_by S.Source S.Quote.Amount.kind self.now) state.old (old_of S.Quote.Amount.kind (memory_of labels.old)) }
+        ensures shown { ShownIn S.Quote.Amount.kind (posed_by S.Source S.Quote.Amount.kind self.now) state.new (old_of S.Quote.Amount.kind (memory_of labels.new)) }
+        ensures words { words_of state.new ≡ slice_set (words_of state.old) book into }
     {
-        if self.stays(state, labels, book, into) {
-            widen(state, book, into);
+        let residual = Residual {
+            graph: &*self,
+            state: &*state,
+        };
+        if residual.stays(labels, book, into) {
+            state.widen(book, into);
             return;
         }
-        let mut trail = self.start_at(labels, book, into);
-        self.search(state, labels, &mut trail);
-        self.augment(state, labels, &trail, book, into);
+        self.start_at(labels, book, into);
+        residual.search(labels);
+        self.augment(state, labels, book, into);
     }
+}
 
+impl<'a, S: Source> Residual<'a, S> {
     // Finds labels anew, by a search from all nodes: they are as valid as before, light, and at most zero.
-    pub(crate) fn refresh(&self, state: &State, labels: &mut Labels<'_, S::Quote>)
-        requires sound { Sound S.Quote.Amount.kind (posed_by S.Source S.Quote.Amount.kind self.now) }
-        requires shown { ShownIn S.Quote.Amount.kind (posed_by S.Source S.Quote.Amount.kind self.now) state.now (bank S.Quote.Amount.kind 0 labels.old.heads labels.old.sheet.now) }
-        requires room { 258 ≤ length labels.old.sheet.now }
-        ensures shown { ShownIn S.Quote.Amount.kind (posed_by S.Source S.Quote.Amount.kind self.now) state.now (bank S.Quote.Amount.kind 0 labels.new.heads labels.new.sheet.now) }
-        ensures low { (v : ℕ) → v < 129 → AtMost (soft_kind S.Quote.Amount.kind) (bank S.Quote.Amount.kind 0 labels.new.heads labels.new.sheet.now v) (soft_kind S.Quote.Amount.kind).none }
-        ensures long { length labels.new.sheet.now ≡ length labels.old.sheet.now }
-        ensures same { labels.new.sheet.ghost_name ≡ labels.old.sheet.ghost_name }
+    pub(crate) fn refresh(&self, labels: &mut Labels<'_, S::Quote>)
+        requires sound { Sound S.Quote.Amount.kind (posed_by S.Source S.Quote.Amount.kind self.now.graph.now) }
+        requires shown { ShownIn S.Quote.Amount.kind (posed_by S.Source S.Quote.Amount.kind self.now.graph.now) self.now.state.now (old_of S.Quote.Amount.kind (memory_of labels.old)) }
+        ensures shown { ShownIn S.Quote.Amount.kind (posed_by S.Source S.Quote.Amount.kind self.now.graph.now) self.now.state.now (old_of S.Quote.Amount.kind (memory_of labels.new)) }
+        ensures low { (v : ℕ) → v < 129 → AtMost (soft_kind S.Quote.Amount.kind) (old_of S.Quote.Amount.kind (memory_of labels.new) v) (soft_kind S.Quote.Amount.kind).none }
     {
-        labels.reset();
-        let mut trail = Trail::fresh(true);
-        self.search(state, labels, &mut trail);
+        labels.reset(Some(Mark {
+            rank: None,
+            arc: None,
+        }));
+        self.search(labels);
         labels.adopt();
     }
 }

@@ -1,20 +1,18 @@
 // The arcs out of a node that was settled, each of which offers a label to the node that it leads to.
-ghost use Rattle.std.specs.Prelude.{◌≡◌, ◌+◌, ◌*◌, ◌<◌, ◌≤◌, true, ◌&&◌, length, ◌==◌, slice_index};
+ghost use Rattle.std.specs.Prelude.{◌≡◌, ◌+◌, ◌*◌, ◌<◌, true, ◌&&◌, ◌==◌, slice_index};
 ghost use Rattle.amounts.specs.Least.{or_none};
 ghost use Rattle.plans.specs.Places.{at};
 ghost use Rattle.sources.specs.Tables.{bit_at};
 ghost use Rattle.solver.specs.Soft.{soft_kind, behind};
 ghost use Rattle.solver.specs.Residual.{node as the_node, above as the_above};
-ghost use Rattle.solver.specs.Held.{memory_of, posed_by, Relaxes};
+ghost use Rattle.solver.specs.Held.{memory_of, posed_by, Relaxes, Stands};
+ghost use Rattle.solver.specs.States.{sent_of, words_of};
 
 use crate::arcs::Arc;
-use crate::graph::Graph;
+use crate::graph::{Graph, Residual};
 use crate::labels::Labels;
 use crate::network::{fall, rise};
-use crate::nodes::{NEW, SINK, above, node_of};
-use crate::offers::offer;
-use crate::state::State;
-use crate::trail::Trail;
+use crate::nodes::{NEW, SINK, Spot};
 use crate::words::has;
 use amounts::{Amount, Money, Ranked};
 use sources::Source;
@@ -32,193 +30,133 @@ impl<'a, S: Source> Graph<'a, S> {
             None => Ranked::<Money, S::Quote>::zero(),
         }
     }
+}
 
-    // The arc up from the node of a class at a weekend.
-    fn take_rise(
-        &self,
-        state: &State,
-        labels: &mut Labels<'_, S::Quote>,
-        trail: &mut Trail,
-        weekend: usize,
-        class: usize,
-    )
-        requires weekend { weekend < S.Source.weeks self.now.source.now }
-        requires class { class < self.now.roster.now.classes }
-        requires room { 258 ≤ length labels.old.sheet.now }
-        ensures relaxed { Relaxes S.Quote.Amount.kind (posed_by S.Source S.Quote.Amount.kind self.now) state.now (memory_of labels.old trail.old) (memory_of labels.new trail.new) (the_node weekend class) 0 1 }
-        ensures same { labels.new.sheet.ghost_name ≡ labels.old.sheet.ghost_name }
+impl<'a, S: Source> Residual<'a, S> {
+    // The arc up from the node of a spot.
+    fn take_rise(&self, labels: &mut Labels<'_, S::Quote>, spot: Spot)
+        requires { Stands (posed_by S.Source S.Quote.Amount.kind self.now.graph.now) spot }
+        ensures { Relaxes S.Quote.Amount.kind (posed_by S.Source S.Quote.Amount.kind self.now.graph.now) self.now.state.now (memory_of labels.old) (memory_of labels.new) (the_node spot.weekend spot.class) 0 1 }
     {
-        let node = node_of(weekend, class);
-        let lower = self.bounds.lower(weekend, class);
-        let upper = self.bounds.upper(weekend, class);
-        let cost = rise::<S::Quote>(lower, upper, state.counts[node]);
+        let node = spot.node();
+        let lower = self.graph.bounds.lower(spot.weekend, spot.class);
+        let upper = self.graph.bounds.upper(spot.weekend, spot.class);
+        let cost = rise::<S::Quote>(lower, upper, self.state.counts[node]);
         let label = labels.read(NEW + node).sum(cost);
-        let head = above(self.roster, weekend, class);
-        offer(labels, trail, head, label, Arc::Rise(weekend, class));
+        let head = spot.above(self.graph.roster);
+        labels.offer(head, label, Arc::Rise(spot.weekend, spot.class));
     }
 
-    // The arc down to the node of a class at a weekend.
-    fn take_fall(
-        &self,
-        state: &State,
-        labels: &mut Labels<'_, S::Quote>,
-        trail: &mut Trail,
-        weekend: usize,
-        class: usize,
-    )
-        requires weekend { weekend < S.Source.weeks self.now.source.now }
-        requires class { class < self.now.roster.now.classes }
-        requires room { 258 ≤ length labels.old.sheet.now }
-        ensures relaxed { Relaxes S.Quote.Amount.kind (posed_by S.Source S.Quote.Amount.kind self.now) state.now (memory_of labels.old trail.old) (memory_of labels.new trail.new) (the_above (at self.now.roster.now.parents) weekend class) (1 + the_node weekend class) (2 + the_node weekend class) }
-        ensures same { labels.new.sheet.ghost_name ≡ labels.old.sheet.ghost_name }
+    // The arc down to the node of a spot.
+    fn take_fall(&self, labels: &mut Labels<'_, S::Quote>, spot: Spot)
+        requires { Stands (posed_by S.Source S.Quote.Amount.kind self.now.graph.now) spot }
+        ensures { Relaxes S.Quote.Amount.kind (posed_by S.Source S.Quote.Amount.kind self.now.graph.now) self.now.state.now (memory_of labels.old) (memory_of labels.new) (the_above (at self.now.graph.now.roster.now.parents) spot.weekend spot.class) (1 + the_node spot.weekend spot.class) (2 + the_node spot.weekend spot.class) }
     {
-        let node = node_of(weekend, class);
-        let lower = self.bounds.lower(weekend, class);
-        let upper = self.bounds.upper(weekend, class);
-        let cost = fall::<S::Quote>(lower, upper, state.counts[node]);
-        let tail = above(self.roster, weekend, class);
+        let node = spot.node();
+        let lower = self.graph.bounds.lower(spot.weekend, spot.class);
+        let upper = self.graph.bounds.upper(spot.weekend, spot.class);
+        let cost = fall::<S::Quote>(lower, upper, self.state.counts[node]);
+        let tail = spot.above(self.graph.roster);
         let label = labels.read(NEW + tail).sum(cost);
-        offer(labels, trail, node, label, Arc::Fall(weekend, class));
+        labels.offer(node, label, Arc::Fall(spot.weekend, spot.class));
     }
 
-    // The arcs down from the node of a class at a weekend, to those of the classes right below it.
-    fn take_falls(
-        &self,
-        state: &State,
-        labels: &mut Labels<'_, S::Quote>,
-        trail: &mut Trail,
-        weekend: usize,
-        class: usize,
-    )
-        requires weekend { weekend < S.Source.weeks self.now.source.now }
-        requires class { class < self.now.roster.now.classes }
-        requires room { 258 ≤ length labels.old.sheet.now }
-        ensures relaxed { Relaxes S.Quote.Amount.kind (posed_by S.Source S.Quote.Amount.kind self.now) state.now (memory_of labels.old trail.old) (memory_of labels.new trail.new) (the_node weekend class) 1 129 }
-        ensures same { labels.new.sheet.ghost_name ≡ labels.old.sheet.ghost_name }
+    // The arcs down from the node of a spot, to those of the classes right below it.
+    fn take_falls(&self, labels: &mut Labels<'_, S::Quote>, spot: Spot)
+        requires { Stands (posed_by S.Source S.Quote.Amount.kind self.now.graph.now) spot }
+        ensures { Relaxes S.Quote.Amount.kind (posed_by S.Source S.Quote.Amount.kind self.now.graph.now) self.now.state.now (memory_of labels.old) (memory_of labels.new) (the_node spot.weekend spot.class) 1 129 }
     {
-        for below in 1..self.roster.classes() {
-            if self.roster.parent(below) == class {
-                self.take_fall(state, labels, trail, weekend, below);
+        for class in 1..self.graph.roster.classes() {
+            if self.graph.roster.parent(class) == spot.class {
+                let weekend = spot.weekend;
+                self.take_fall(labels, Spot { weekend, class });
             }
         }
     }
 
     // The arcs down from the sink, to class 0 at each weekend.
-    fn take_sink(&self, state: &State, labels: &mut Labels<'_, S::Quote>, trail: &mut Trail)
-        requires room { 258 ≤ length labels.old.sheet.now }
-        ensures relaxed { Relaxes S.Quote.Amount.kind (posed_by S.Source S.Quote.Amount.kind self.now) state.now (memory_of labels.old trail.old) (memory_of labels.new trail.new) 128 0 2049 }
-        ensures same { labels.new.sheet.ghost_name ≡ labels.old.sheet.ghost_name }
+    fn take_sink(&self, labels: &mut Labels<'_, S::Quote>)
+        ensures { Relaxes S.Quote.Amount.kind (posed_by S.Source S.Quote.Amount.kind self.now.graph.now) self.now.state.now (memory_of labels.old) (memory_of labels.new) 128 0 2049 }
     {
-        for weekend in 0..self.source.weekends() {
-            self.take_fall(state, labels, trail, weekend, 0);
+        for weekend in 0..self.graph.source.weekends() {
+            self.take_fall(labels, Spot { weekend, class: 0 });
         }
     }
 
     // The move of a book to another weekend; `leaving` is the opposite of its quote where it is.
     fn take_move(
         &self,
-        state: &State,
         labels: &mut Labels<'_, S::Quote>,
-        trail: &mut Trail,
         book: usize,
         weekend: usize,
         leaving: Ranked<Money, S::Quote>,
     )
-        requires book { book < S.Source.count self.now.source.now }
-        requires sent { at state.now.sent book < S.Source.weeks self.now.source.now }
-        requires weekend { weekend < S.Source.weeks self.now.source.now }
-        requires allowed { bit_at (slice_index state.now.words book) weekend ≡ true }
-        requires leaving { leaving ≡ (soft_kind S.Quote.Amount.kind).minus (or_none (soft_kind S.Quote.Amount.kind) (behind (S.Source.table self.now.source.now book (at state.now.sent book)))) }
-        requires room { 258 ≤ length labels.old.sheet.now }
-        ensures relaxed { Relaxes S.Quote.Amount.kind (posed_by S.Source S.Quote.Amount.kind self.now) state.now (memory_of labels.old trail.old) (memory_of labels.new trail.new) (the_node (at state.now.sent book) (at self.now.roster.now.homes book)) (129 + (book * 16 + weekend)) (130 + (book * 16 + weekend)) }
-        ensures same { labels.new.sheet.ghost_name ≡ labels.old.sheet.ghost_name }
+        requires book { book < S.Source.count self.now.graph.now.source.now }
+        requires sent { at (sent_of self.now.state.now) book < S.Source.weeks self.now.graph.now.source.now }
+        requires weekend { weekend < S.Source.weeks self.now.graph.now.source.now }
+        requires allowed { bit_at (slice_index (words_of self.now.state.now) book) weekend ≡ true }
+        requires leaving { leaving ≡ (soft_kind S.Quote.Amount.kind).minus (or_none (soft_kind S.Quote.Amount.kind) (behind (S.Source.table self.now.graph.now.source.now book (at (sent_of self.now.state.now) book)))) }
+        ensures { Relaxes S.Quote.Amount.kind (posed_by S.Source S.Quote.Amount.kind self.now.graph.now) self.now.state.now (memory_of labels.old) (memory_of labels.new) (the_node (at (sent_of self.now.state.now) book) (at self.now.graph.now.roster.now.homes book)) (129 + (book * 16 + weekend)) (130 + (book * 16 + weekend)) }
     {
-        let class = self.roster.class_of(book);
-        let tail = node_of(usize::from(state.sent[book]), class);
-        let cost = self.soft_quote(book, weekend).sum(leaving);
-        let label = labels.read(NEW + tail).sum(cost);
-        let head = node_of(weekend, class);
-        offer(labels, trail, head, label, Arc::Move(book, weekend));
+        let from = self.state.spot_of(self.graph.roster, book);
+        let class = from.class;
+        let cost = self.graph.soft_quote(book, weekend).sum(leaving);
+        let label = labels.read(NEW + from.node()).sum(cost);
+        let to = Spot { weekend, class };
+        labels.offer(to.node(), label, Arc::Move(book, weekend));
     }
 
     // The moves of a book to the weekends of its word.
-    fn take_moves_of(
-        &self,
-        state: &State,
-        labels: &mut Labels<'_, S::Quote>,
-        trail: &mut Trail,
-        book: usize,
-    )
-        requires book { book < S.Source.count self.now.source.now }
-        requires sent { at state.now.sent book < S.Source.weeks self.now.source.now }
-        requires room { 258 ≤ length labels.old.sheet.now }
-        ensures relaxed { Relaxes S.Quote.Amount.kind (posed_by S.Source S.Quote.Amount.kind self.now) state.now (memory_of labels.old trail.old) (memory_of labels.new trail.new) (the_node (at state.now.sent book) (at self.now.roster.now.homes book)) (129 + book * 16) (129 + (book + 1) * 16) }
-        ensures same { labels.new.sheet.ghost_name ≡ labels.old.sheet.ghost_name }
+    fn take_moves_of(&self, labels: &mut Labels<'_, S::Quote>, book: usize)
+        requires book { book < S.Source.count self.now.graph.now.source.now }
+        requires sent { at (sent_of self.now.state.now) book < S.Source.weeks self.now.graph.now.source.now }
+        ensures { Relaxes S.Quote.Amount.kind (posed_by S.Source S.Quote.Amount.kind self.now.graph.now) self.now.state.now (memory_of labels.old) (memory_of labels.new) (the_node (at (sent_of self.now.state.now) book) (at self.now.graph.now.roster.now.homes book)) (129 + book * 16) (129 + (book + 1) * 16) }
     {
-        let word = state.words[book];
-        let leaving = self
-            .soft_quote(book, usize::from(state.sent[book]))
-            .opposite();
-        for weekend in 0..self.source.weekends() {
+        let word = self.state.word_of(book);
+        let from = self.state.weekend_of(book);
+        let leaving = self.graph.soft_quote(book, from).opposite();
+        for weekend in 0..self.graph.source.weekends() {
             if has(word, weekend) {
-                self.take_move(state, labels, trail, book, weekend, leaving);
+                self.take_move(labels, book, weekend, leaving);
             }
         }
     }
 
-    // Is the book sent to the weekend, and of the class?
-    fn stands_at(&self, state: &State, book: usize, weekend: usize, class: usize) -> bool
+    // Is the book at the spot?
+    fn stands_at(&self, book: usize, spot: Spot) -> bool
         requires { book < 120 }
-        ensures { result ≡ (at state.now.sent book == weekend && at self.now.roster.now.homes book == class) }
+        ensures { result ≡ (at (sent_of self.now.state.now) book == spot.weekend && at self.now.graph.now.roster.now.homes book == spot.class) }
     {
-        usize::from(state.sent[book]) == weekend && self.roster.class_of(book) == class
+        self.state.weekend_of(book) == spot.weekend
+            && self.graph.roster.class_of(book) == spot.class
     }
 
-    // The moves of the books that are at the node of a class at a weekend.
-    fn take_moves(
-        &self,
-        state: &State,
-        labels: &mut Labels<'_, S::Quote>,
-        trail: &mut Trail,
-        weekend: usize,
-        class: usize,
-    )
-        requires weekend { weekend < S.Source.weeks self.now.source.now }
-        requires class { class < self.now.roster.now.classes }
-        requires room { 258 ≤ length labels.old.sheet.now }
-        ensures relaxed { Relaxes S.Quote.Amount.kind (posed_by S.Source S.Quote.Amount.kind self.now) state.now (memory_of labels.old trail.old) (memory_of labels.new trail.new) (the_node weekend class) 129 2049 }
-        ensures same { labels.new.sheet.ghost_name ≡ labels.old.sheet.ghost_name }
+    // The moves of the books that are at a spot.
+    fn take_moves(&self, labels: &mut Labels<'_, S::Quote>, spot: Spot)
+        requires { Stands (posed_by S.Source S.Quote.Amount.kind self.now.graph.now) spot }
+        ensures { Relaxes S.Quote.Amount.kind (posed_by S.Source S.Quote.Amount.kind self.now.graph.now) self.now.state.now (memory_of labels.old) (memory_of labels.new) (the_node spot.weekend spot.class) 129 2049 }
     {
-        for book in 0..self.source.books() {
-            if self.stands_at(state, book, weekend, class) {
-                self.take_moves_of(state, labels, trail, book);
+        for book in 0..self.graph.source.books() {
+            if self.stands_at(book, spot) {
+                self.take_moves_of(labels, book);
             }
         }
     }
 
     // All arcs out of a node. A number below 128 that is no class's node has none.
-    pub(crate) fn relax(
-        &self,
-        state: &State,
-        labels: &mut Labels<'_, S::Quote>,
-        trail: &mut Trail,
-        node: usize,
-    )
-        requires node { node < 129 }
-        requires room { 258 ≤ length labels.old.sheet.now }
-        ensures relaxed { Relaxes S.Quote.Amount.kind (posed_by S.Source S.Quote.Amount.kind self.now) state.now (memory_of labels.old trail.old) (memory_of labels.new trail.new) node 0 2049 }
-        ensures same { labels.new.sheet.ghost_name ≡ labels.old.sheet.ghost_name }
+    pub(crate) fn relax(&self, labels: &mut Labels<'_, S::Quote>, node: usize)
+        requires { node < 129 }
+        ensures { Relaxes S.Quote.Amount.kind (posed_by S.Source S.Quote.Amount.kind self.now.graph.now) self.now.state.now (memory_of labels.old) (memory_of labels.new) node 0 2049 }
     {
         if node == SINK {
-            self.take_sink(state, labels, trail);
+            self.take_sink(labels);
             return;
         }
-        let weekend = node / 8;
-        let class = node % 8;
-        if weekend < self.source.weekends() && class < self.roster.classes() {
-            self.take_rise(state, labels, trail, weekend, class);
-            self.take_falls(state, labels, trail, weekend, class);
-            self.take_moves(state, labels, trail, weekend, class);
+        let spot = Spot::of(node);
+        if spot.weekend < self.graph.source.weekends() && spot.class < self.graph.roster.classes() {
+            self.take_rise(labels, spot);
+            self.take_falls(labels, spot);
+            self.take_moves(labels, spot);
         }
     }
 }

@@ -1,19 +1,19 @@
 // A least assignment, from nothing.
-ghost use Rattle.std.specs.Prelude.{◌≡◌, ℕ, ◌<◌, ◌≤◌, true, length, is_some, MatchOption};
+ghost use Rattle.std.specs.Prelude.{◌≡◌, ℕ, ◌<◌, ◌≤◌, true, length, MatchOption};
 ghost use Rattle.amounts.specs.Sums.{item};
 ghost use Rattle.plans.specs.Posed.{meaning, problem};
 ghost use Rattle.plans.specs.Theorems.{Sound};
 ghost use Rattle.plans.specs.Sheets.{stranded};
 ghost use Rattle.solver.specs.Soft.{soft_kind};
-ghost use Rattle.solver.specs.Held.{bank, word_at, posed_by, ShownIn};
+ghost use Rattle.solver.specs.Held.{memory_of, old_of, word_at, posed_by, ShownIn};
 ghost use Rattle.solver.specs.Solutions.{SolutionRight, SolvedIn};
+ghost use Rattle.solver.specs.States.{words_of};
 
-use crate::graph::Graph;
-use crate::labels::Labels;
+use crate::graph::{Graph, Residual};
+use crate::labels::{Labels, clear_all};
 use crate::open_words::open_words;
-use crate::solution::Solution;
-use crate::start::first_state;
 use crate::state::State;
+use crate::unsolved::Unsolved;
 use amounts::Amount;
 use plans::{Bounds, Roster};
 use sources::Source;
@@ -26,62 +26,61 @@ impl<'a, S: Source> Graph<'a, S> {
     fn widen_all(&self, state: &mut State, labels: &mut Labels<'_, S::Quote>, words: &[u16; 120])
         requires sound { Sound S.Quote.Amount.kind (posed_by S.Source S.Quote.Amount.kind self.now) }
         requires some { (b : ℕ) → b < S.Source.count self.now.source.now → (x : ℕ) × (x < S.Source.weeks self.now.source.now) × (word_at words.now b x ≡ true) }
-        requires shown { ShownIn S.Quote.Amount.kind (posed_by S.Source S.Quote.Amount.kind self.now) state.old (bank S.Quote.Amount.kind 0 labels.old.heads labels.old.sheet.now) }
-        requires room { 258 ≤ length labels.old.sheet.now }
-        ensures shown { ShownIn S.Quote.Amount.kind (posed_by S.Source S.Quote.Amount.kind self.now) state.new (bank S.Quote.Amount.kind 0 labels.new.heads labels.new.sheet.now) }
-        ensures words { (b x : ℕ) → b < S.Source.count self.now.source.now → word_at state.new.words b x ≡ word_at words.now b x }
-        ensures long { length labels.new.sheet.now ≡ length labels.old.sheet.now }
-        ensures same { labels.new.sheet.ghost_name ≡ labels.old.sheet.ghost_name }
+        requires shown { ShownIn S.Quote.Amount.kind (posed_by S.Source S.Quote.Amount.kind self.now) state.old (old_of S.Quote.Amount.kind (memory_of labels.old)) }
+        ensures shown { ShownIn S.Quote.Amount.kind (posed_by S.Source S.Quote.Amount.kind self.now) state.new (old_of S.Quote.Amount.kind (memory_of labels.new)) }
+        ensures words { (b x : ℕ) → b < S.Source.count self.now.source.now → word_at (words_of state.new) b x ≡ word_at words.now b x }
     {
-        for book in 0..self.source.books() {
-            self.reassign(state, labels, book, words[book]);
+        for (book, word) in words[..self.source.books()].iter().enumerate() {
+            self.reassign(state, labels, book, *word);
         }
     }
 
     // A least assignment, and labels that show it; none where a book has no open weekend.
-    pub(crate) fn least_state(&self, labels: &mut Labels<'_, S::Quote>) -> Option<State>
-        requires blank { (v : ℕ) → bank S.Quote.Amount.kind 0 labels.old.heads labels.old.sheet.now v ≡ (soft_kind S.Quote.Amount.kind).none }
-        requires room { 258 ≤ length labels.old.sheet.now }
-        ensures found { MatchOption result (stranded (S.Source.count self.now.source.now) (S.Source.weeks self.now.source.now) (S.Source.table self.now.source.now) ≡ true) (λ s. SolvedIn S.Quote.Amount.kind (posed_by S.Source S.Quote.Amount.kind self.now) s (bank S.Quote.Amount.kind 0 labels.new.heads labels.new.sheet.now)) }
+    fn least_state(&self, labels: &mut Labels<'_, S::Quote>) -> Option<State>
+        requires { (v : ℕ) → old_of S.Quote.Amount.kind (memory_of labels.old) v ≡ (soft_kind S.Quote.Amount.kind).none }
+        ensures found { MatchOption result (stranded (S.Source.count self.now.source.now) (S.Source.weeks self.now.source.now) (S.Source.table self.now.source.now) ≡ true) (λ s. SolvedIn S.Quote.Amount.kind (posed_by S.Source S.Quote.Amount.kind self.now) s (old_of S.Quote.Amount.kind (memory_of labels.new))) }
         ensures sound { Sound S.Quote.Amount.kind (posed_by S.Source S.Quote.Amount.kind self.now) }
-        ensures long { length labels.new.sheet.now ≡ length labels.old.sheet.now }
-        ensures same { labels.new.sheet.ghost_name ≡ labels.old.sheet.ghost_name }
     {
         let words = open_words(self.source);
-        let mut state = first_state(self.source, self.roster, self.bounds, &words)?;
-        self.first_labels(&state, labels);
+        let mut state = self.first_state(&words)?;
+        let first = Residual {
+            graph: &*self,
+            state: &state,
+        };
+        first.first_labels(labels);
         self.widen_all(&mut state, labels, &words);
-        self.refresh(&state, labels);
+        let last = Residual {
+            graph: &*self,
+            state: &state,
+        };
+        last.refresh(labels);
         Some(state)
     }
 }
 
-// Finds an assignment that is least in violations of the bounds, and then in total. It needs a work sheet of 1,024 places: a shorter one is left as it is, and
-// of any other every place is zero at the end.
+// Finds an assignment that is least in violations of the bounds, and then in total, book by book. It needs a work sheet of 1,024 places: a shorter one is
+// left as it is, and of any other every place is zero at the end.
 pub fn solve<'a, S: Source>(
     source: &'a S,
     roster: &'a Roster,
     bounds: &'a Bounds,
     work: &mut [S::Quote],
-) -> Solution
+) -> Result<[u8; 120], Unsolved>
     ensures right { SolutionRight S.Quote.Amount.kind (problem (meaning S.Source source.now) roster.now bounds.now S.Quote.Amount.kind.none) (length work.old) result }
     ensures unchanged { length work.old < 1024 → work.new ≡ work.old }
     ensures clean { 1024 ≤ length work.old → (i : ℕ) → item S.Quote.Amount.kind work.new i ≡ S.Quote.Amount.kind.none }
     ensures long { length work.new ≡ length work.old }
 {
     if work.len() < PLACES {
-        return Solution::Short;
+        return Err(Unsolved::Short);
     }
     let graph = Graph {
         source,
         roster,
         bounds,
     };
-    let mut labels = Labels::over(work);
-    let found = graph.least_state(&mut labels);
-    labels.clear();
-    match found {
-        Some(state) => Solution::Least(state.sent),
-        None => Solution::Stranded,
-    }
+    let found = graph.least_state(&mut Labels::over(&mut *work));
+    clear_all(work);
+    let state = found.ok_or(Unsolved::Stranded)?;
+    Ok(state.weekends())
 }

@@ -1,5 +1,5 @@
 // The assignment that a search starts from: book by book, each goes where it is cheapest at that moment.
-ghost use Rattle.std.specs.Prelude.{◌≡◌, ℕ, ◌+◌, ◌^◌, ◌<◌, ◌≤◌, true, ◌&&◌, ◌⊎◌, is_some, MatchOption, ◌==◌, slice_set};
+ghost use Rattle.std.specs.Prelude.{◌≡◌, ℕ, ◌+◌, ◌^◌, ◌<◌, ◌≤◌, true, ◌&&◌, is_some, MatchOption, ◌==◌, slice_set};
 ghost use Rattle.sources.specs.Tables.{bit_at};
 ghost use Rattle.amounts.specs.Sums.{bit};
 ghost use Rattle.plans.specs.Places.{at};
@@ -8,98 +8,65 @@ ghost use Rattle.plans.specs.Sheets.{stranded};
 ghost use Rattle.solver.specs.Residual.{node};
 ghost use Rattle.solver.specs.Held.{word_at};
 ghost use Rattle.solver.specs.Starting.{Found, Begun};
+ghost use Rattle.solver.specs.States.{sent_of, words_of};
 
+use crate::choices::{Choice, cheaper};
 use crate::counts::enter;
+use crate::graph::{Graph, Residual};
 use crate::network::rise;
+use crate::nodes::Spot;
 use crate::state::State;
 use crate::words::has;
 use amounts::{Amount, Money, Ranked};
-use plans::{Bounds, Roster};
+use plans::Roster;
 use sources::Source;
 
-// A weekend that a book may go to, and what that costs.
-#[derive(Clone, Copy)]
-struct Offer<X> {
-    weekend: usize,
-    cost: X,
-}
-
-// The rises at the nodes of a weekend for a class and for every class above, added up.
-fn rises<X: Amount>(
-    roster: &Roster,
-    bounds: &Bounds,
-    counts: &[usize; 128],
-    weekend: usize,
-    class: usize,
-) -> Ranked<Money, X>
-    requires near { weekend < 16 }
-    requires known { class < roster.now.classes }
-{
-    let lower = bounds.lower(weekend, class);
-    let upper = bounds.upper(weekend, class);
-    let own = rise::<X>(lower, upper, counts[weekend * 8 + class]);
-    if class == 0 {
-        return own;
+impl<'a, S: Source> Residual<'a, S> {
+    // The rises at a spot and at those of every class above it, added up.
+    fn rises(&self, spot: Spot) -> Ranked<Money, S::Quote>
+        requires { spot.class < self.now.graph.now.roster.now.classes }
+    {
+        let Spot { weekend, class } = spot;
+        let lower = self.graph.bounds.lower(weekend, class);
+        let upper = self.graph.bounds.upper(weekend, class);
+        let own = rise::<S::Quote>(lower, upper, self.state.counts[spot.node()]);
+        if class == 0 {
+            return own;
+        }
+        let class = self.graph.roster.parent(class);
+        own.sum(self.rises(Spot { weekend, class }))
     }
-    let above = rises::<X>(roster, bounds, counts, weekend, roster.parent(class));
-    own.sum(above)
-}
 
-// What it costs to send one more book to a weekend: the rises first, and then the quote.
-fn price_weekend<S: Source>(
-    source: &S,
-    roster: &Roster,
-    bounds: &Bounds,
-    counts: &[usize; 128],
-    book: usize,
-    weekend: usize,
-) -> Offer<Ranked<Money, S::Quote>>
-    requires { weekend < 16 }
-    ensures { result.weekend ≡ weekend }
-{
-    let mut cost = rises::<S::Quote>(roster, bounds, counts, weekend, roster.class_of(book));
-    if let Some(quote) = source.quote(book, weekend) {
-        cost.second = cost.second.sum(quote);
+    // What it costs to send one more book to a weekend: the rises first, and then the quote.
+    fn price_weekend(&self, book: usize, weekend: usize) -> Choice<Ranked<Money, S::Quote>>
+        requires { weekend < 16 }
+        ensures { result.place ≡ weekend }
+    {
+        let class = self.graph.roster.class_of(book);
+        let mut cost = self.rises(Spot { weekend, class });
+        if let Some(quote) = self.graph.source.quote(book, weekend) {
+            cost.second = cost.second.sum(quote);
+        }
+        Choice {
+            place: weekend,
+            cost,
+        }
     }
-    Offer { weekend, cost }
-}
 
-// The cheaper of what was found so far, if anything, and one more; of equal ones the first.
-fn cheaper<X: Amount>(found: Option<Offer<X>>, more: Offer<X>) -> Offer<X>
-    ensures { MatchOption found (result ≡ more) (λ o. (result ≡ o) ⊎ (result ≡ more)) }
-{
-    match found {
-        Some(least) => {
-            if more.cost.compare(least.cost).is_lt() {
-                more
-            } else {
-                least
+    // The cheapest choice among the open weekends of a book, if it has one; its word says where it is open.
+    fn cheapest(&self, word: u16, book: usize) -> Option<Choice<Ranked<Money, S::Quote>>>
+        requires { (w : ℕ) → bit_at word w ≡ is_some (S.Source.table self.now.graph.now.source.now book w) }
+        ensures { Found (S.Source.table self.now.graph.now.source.now book) (S.Source.weeks self.now.graph.now.source.now) result }
+    {
+        let mut found = None;
+        // Stays: as a chain with `min_by` it is proved that an open weekend is answered, and not that none is open where none is ("`search`: no proof").
+        for weekend in 0..self.graph.source.weekends() {
+            if has(word, weekend) {
+                found = Some(cheaper(found, self.price_weekend(book, weekend)));
             }
         }
-        None => more,
+        found
     }
-}
-
-// The cheapest offer among the open weekends of a book, if it has one; its word says where it is open.
-fn cheapest<S: Source>(
-    source: &S,
-    roster: &Roster,
-    bounds: &Bounds,
-    counts: &[usize; 128],
-    word: u16,
-    book: usize,
-) -> Option<Offer<Ranked<Money, S::Quote>>>
-    requires { (w : ℕ) → bit_at word w ≡ is_some (S.Source.table source.now book w) }
-    ensures { Found (S.Source.table source.now book) (S.Source.weeks source.now) result }
-{
-    let mut found = None;
-    for weekend in 0..source.weekends() {
-        if has(word, weekend) {
-            let more = price_weekend(source, roster, bounds, counts, book, weekend);
-            found = Some(cheaper(found, more));
-        }
-    }
-    found
 }
 
 // Sends a book to a weekend, which is then the only one of its word.
@@ -107,33 +74,30 @@ fn place(state: &mut State, roster: &Roster, book: usize, weekend: usize)
     requires near { weekend < 16 }
     requires within { book < 120 }
     requires room { (c : ℕ) → c < 8 → at state.old.counts (node weekend c) ≤ 120 }
-    ensures sent { state.new.sent ≡ slice_set state.old.sent book weekend }
-    ensures words { state.new.words ≡ slice_set state.old.words book (2 ^ weekend) }
+    ensures sent { sent_of state.new ≡ slice_set (sent_of state.old) book weekend }
+    ensures words { words_of state.new ≡ slice_set (words_of state.old) book (2 ^ weekend) }
     ensures counts { (w c : ℕ) → c < 8 → at state.new.counts (node w c) ≡ at state.old.counts (node w c) + bit (weekend == w && is_member roster.now book c) }
 {
-    state.sent[book] = weekend as u8;
-    state.words[book] = 1 << weekend;
+    state.send(book, weekend);
+    state.widen(book, 1 << weekend);
     enter(&mut state.counts, roster, book, weekend);
 }
 
-// `words` says where the books are open. None where a book is open nowhere.
-pub(crate) fn first_state<S: Source>(
-    source: &S,
-    roster: &Roster,
-    bounds: &Bounds,
-    words: &[u16; 120],
-) -> Option<State>
-    requires { (b w : ℕ) → word_at words.now b w ≡ is_some (S.Source.table source.now b w) }
-    ensures { MatchOption result (stranded (S.Source.count source.now) (S.Source.weeks source.now) (S.Source.table source.now) ≡ true) (Begun (meaning S.Source source.now) roster.now) }
-{
-    let mut state = State {
-        sent: [0; 120],
-        counts: [0; 128],
-        words: [0; 120],
-    };
-    for book in 0..source.books() {
-        let best = cheapest(source, roster, bounds, &state.counts, words[book], book)?;
-        place(&mut state, roster, book, best.weekend);
+impl<'a, S: Source> Graph<'a, S> {
+    // `words` says where the books are open. None where a book is open nowhere.
+    pub(crate) fn first_state(&self, words: &[u16; 120]) -> Option<State>
+        requires { (b w : ℕ) → word_at words.now b w ≡ is_some (S.Source.table self.now.source.now b w) }
+        ensures { MatchOption result (stranded (S.Source.count self.now.source.now) (S.Source.weeks self.now.source.now) (S.Source.table self.now.source.now) ≡ true) (Begun (meaning S.Source self.now.source.now) self.now.roster.now) }
+    {
+        let mut state = State::empty();
+        for (book, word) in words[..self.source.books()].iter().enumerate() {
+            let residual = Residual {
+                graph: &*self,
+                state: &state,
+            };
+            let best = residual.cheapest(*word, book)?;
+            place(&mut state, self.roster, book, best.place);
+        }
+        Some(state)
     }
-    Some(state)
 }

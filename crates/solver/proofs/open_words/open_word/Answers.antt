@@ -1,8 +1,8 @@
-use Rattle.std.proofs.Common.{is_some, ap, ◌∙◌, inr, arith, rules, below_more}
+use Rattle.std.proofs.Common.{ap, ◌∙◌, arith, rules, below_more}
 use lib.Bits.{bit_or}
 use Rattle.std.proofs.lemmas.Nat.{one_shl}
 use Rattle.sources.specs.Tables.{bit_at}
-use Rattle.solver.proofs.Opening.{word_shut, word_open, below_all}
+use Rattle.solver.proofs.Opening.{word_shut, word_open}
 use Rattle.solver.proofs.open_words.open_word.Goals as goal
 use Rattle.solver.proofs.open_words.open_word.Goals.{then-is_some, else-is_some}
 
@@ -21,12 +21,3 @@ loop-weekend-preserved g c =
       ],
       below_more _ _ c.loop-weekend.invariant.1 (search rules),
     )
-
-pub returns : goal.returns
-returns g c =
-    let s = c.args.source.now in
-    let weeks = c.weekends-weekend-end.ensures in
-    record {
-      bits = λ w. below_all (λ x. is_some (g.S.Source.table s c.args.book x)) c.loop-weekend.weekend (λ x h. ap is_some (g.met.S.Source.ranges.outside s c.args.book x (inr (omega arith)))) (bit_at c.loop-weekend.word w) w (c.loop-weekend.invariant.0 w);
-      light = λ w h. c.loop-weekend.invariant.1 w (omega arith);
-    }

@@ -1,21 +1,19 @@
-use Rattle.std.proofs.Common.{arith, rules}
+use Rattle.std.proofs.Common.{◌≡◌, true, sym, ap, ◌∙◌, subst, MatchOption}
+use Rattle.std.specs.Result.{result_ok}
+use Rattle.plans.specs.Places.{at}
 use Rattle.plans.specs.Posed.{meaning, problem}
+use Rattle.plans.specs.Sheets.{stranded}
 use Rattle.plans.proofs.Posing.{bounds_straight}
+use Rattle.solver.specs.Held.{memory_of, old_of}
+use Rattle.solver.specs.Solutions.{LeastAssignment, SolvedIn}
 use Rattle.solver.proofs.Widened.{least_of_lem}
 use Rattle.solver.proofs.solving.solve.Goals as goal
 
-pub returns-in-Some : goal.returns-in-Some
-returns-in-Some g c =
+pub returns-clause-right : goal.returns-clause-right
+returns-clause-right g c =
     let K = g.S.Quote.Amount.kind in
     let B = problem (meaning g.S.Source c.args.source.now) c.args.roster.now c.args.bounds.now K.none in
-    let e = c.in-Some.ensures in
-    record {
-      right = (c.if-work-lt-PLACES.false, least_of_lem g.met.S.Quote.Amount.lawful B e.sound (λ w k _ _. bounds_straight c.args.bounds.now w k) c.in-Some.state _ e.found);
-      unchanged = λ h. absurd (omega (arith, c.if-work-lt-PLACES.false));
-      clean = search rules;
-      long = search rules;
-    }
-
-pub returns-in-None : goal.returns-in-None
-returns-in-None g c =
-    record { right = (c.if-work-lt-PLACES.false, c.in-None.ensures.found); unchanged = λ h. absurd (omega (arith, c.if-work-lt-PLACES.false)); clean = search rules; long = search rules }
+    let e = c.least_state-found.ensures in
+    let labels = old_of K (memory_of c.least_state-found.new.labels) in
+    let solved = subst (λ o. MatchOption o (stranded B.books B.weekends B.quote ≡ true) (λ s. SolvedIn K B s labels)) (c.ok_or.ensures.ok_part ∙ ap result_ok c.in_ok-state.was) e.found in
+    (c.if-work-lt-PLACES.false, subst (λ p. LeastAssignment K B (at p)) (sym c.weekends.ensures) (least_of_lem g.met.S.Quote.Amount.lawful B e.sound (λ w k _ _. bounds_straight c.args.bounds.now w k) c.in_ok-state.state labels solved))

@@ -1,17 +1,17 @@
-use Rattle.std.proofs.Common.{length, set, sym, ap, ◌∙◌, subst, arith}
+use Rattle.std.proofs.Common.{sym, ◌∙◌, subst, arith}
 use Rattle.solver.specs.Held.{ShownIn}
 use Rattle.solver.proofs.Augmented.{undoable, Step, step, start_weekend, shown}
 use Rattle.solver.proofs.graph.Graph.augment.Given as given
 use Rattle.solver.proofs.graph.Graph.augment.Goals as goal
 
 pub undo-hole-requires : goal.undo-hole-requires
-undo-hole-requires g c = undoable g.met.S.Quote.Amount.lawful _ _ _ _ _ c.requires.walkable _ _ _ c.loop-arc.invariant.0 c.in-Some.ensures
+undo-hole-requires g c = undoable g.met.S.Quote.Amount.lawful _ _ _ _ _ c.requires _ _ _ c.loop-arc.invariant.0 c.in-Some.ensures
 
 -- what one turn of the loop does
-turn : (g : given.Over) (c : goal.After-undo-hole g) → Step g.met.S.Quote.Amount.lawful _ _ _ _ _ c.requires.walkable c.loop-arc.state c.undo-hole.new.state c.loop-arc.hole c.undo-hole.result
+turn : (g : given.Over) (c : goal.After-undo-hole g) → Step g.met.S.Quote.Amount.lawful _ _ _ _ _ c.requires c.loop-arc.state c.undo-hole.new.state c.loop-arc.hole c.undo-hole.result
 turn g c =
     let o = c.undo-hole.ensures in
-    step g.met.S.Quote.Amount.lawful _ _ _ _ _ c.requires.walkable _ _ _ _ c.in-Some.arc c.loop-arc.invariant.0 c.in-Some.ensures o.place o.next o.after
+    step g.met.S.Quote.Amount.lawful _ _ _ _ _ c.requires _ _ _ _ c.in-Some.arc c.loop-arc.invariant.0 c.in-Some.ensures o.next o.after
 
 pub loop-arc-smaller : goal.loop-arc-smaller
 loop-arc-smaller g c = (turn g c).less
@@ -19,17 +19,9 @@ loop-arc-smaller g c = (turn g c).less
 pub loop-arc-preserved : goal.loop-arc-preserved
 loop-arc-preserved g c = let s = turn g c in (s.walks, s.words ∙ c.loop-arc.invariant.1, s.within)
 
-pub place-requires : goal.place-requires
-place-requires g c = (omega (arith, c.requires.walkable.book, c.requires.walkable.fits.sound.books), start_weekend g.met.S.Quote.Amount.lawful _ _ _ _ _ c.requires.walkable _ _ c.loop-arc.invariant.0 c.in_default.ensures)
+pub of-requires : goal.of-requires
+of-requires g c = omega (arith, start_weekend g.met.S.Quote.Amount.lawful _ _ _ _ _ c.requires _ _ c.loop-arc.invariant.0 c.in_default.ensures)
 
-pub returns : goal.returns
-returns g c =
-    let i = c.loop-arc.invariant in
-    let o = c.place.ensures in
-    record {
-      shown = subst (ShownIn g.S.Quote.Amount.kind _ c.place.new.state) (sym c.adopt.ensures.old) (shown g.met.S.Quote.Amount.lawful _ _ _ _ _ c.requires.walkable _ _ _ i.0 c.in_default.ensures o.places.0 o.places.1 o.after);
-      words = ap (λ s. s.words) o.after ∙ ap (λ w. set w c.args.book c.args.into) i.1;
-      place = omega (arith, o.places.1, ap length i.1);
-      long = c.adopt.ensures.long;
-      same = c.adopt.ensures.same;
-    }
+pub returns-clause-shown : goal.returns-clause-shown
+returns-clause-shown g c =
+    subst (ShownIn g.S.Quote.Amount.kind _ c.put.new.state) (sym c.adopt.ensures) (shown g.met.S.Quote.Amount.lawful _ _ _ _ _ c.requires _ _ _ c.loop-arc.invariant.0 c.in_default.ensures (rw (← c.of.ensures.weekend) c.put.ensures))

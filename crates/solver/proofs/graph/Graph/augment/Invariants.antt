@@ -1,14 +1,15 @@
 use Rattle.std.proofs.Common.{◌≡◌, ◌<◌}
-use Rattle.solver.specs.Held.{memory, rank_of, posed_by}
+use Rattle.solver.specs.Held.{memory_of, rank_of, posed_by}
 use Rattle.solver.proofs.Augmented.{WalksIn}
 use Rattle.solver.proofs.graph.Graph.augment.Given as goal
+use Rattle.solver.specs.States.{words_of}
 
 abbrev pub invariant-loop-arc : goal.invariant-loop-arc
 invariant-loop-arc g l =
     let K = g.S.Quote.Amount.kind in
-    WalksIn K (posed_by g.S.Source K l.self) (memory l.labels.heads l.labels.sheet.now l.trail) l.book l.into l.state l.hole
-    × (l.state.words ≡ l.initial.state.words)
+    WalksIn K (posed_by g.S.Source K l.self) (memory_of l.labels) l.book l.into l.state l.hole
+    × ((words_of l.state) ≡ (words_of l.initial.state))
     × (l.hole < 129)
 
 abbrev pub decreases-loop-arc : goal.decreases-loop-arc
-decreases-loop-arc g l = rank_of (memory l.labels.heads l.labels.sheet.now l.trail) l.hole
+decreases-loop-arc g l = rank_of (memory_of l.labels) l.hole

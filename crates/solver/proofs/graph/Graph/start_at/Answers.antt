@@ -1,15 +1,14 @@
-use Rattle.std.proofs.Common.{◌+◌, sym, refl, ap, ◌∙◌, subst₂, arith}
+use Rattle.std.proofs.Common.{◌+◌, sym, ap, ◌∙◌, subst, arith}
 use Rattle.solver.specs.Residual.{node}
 use Rattle.solver.specs.Held.{posed_by, memory_of}
-use Rattle.solver.proofs.Beginning.{Starting, starting_none, starting_skip, starting_more, started}
+use Rattle.solver.proofs.Beginning.{Starting, starting_none, starting_skip, starting_more}
 use Rattle.solver.proofs.graph.Graph.start_at.Goals as goal
 use Rattle.solver.proofs.graph.Graph.start_at.Goals.{then-has, else-has}
 
 pub loop-weekend-init : goal.loop-weekend-init
 loop-weekend-init g c =
     let K = g.S.Quote.Amount.kind in
-    let f = c.fresh-trail.ensures in
-    (starting_none K (posed_by g.S.Source K c.args.self.now) c.args.book c.args.into _ c.reset.ensures.new f.seen f.ranks f.arcs, refl)
+    starting_none K (posed_by g.S.Source K c.args.self.now) c.args.book c.args.into _ c.reset.ensures.new c.reset.ensures.marks
 
 pub loop-weekend-preserved : goal.loop-weekend-preserved
 loop-weekend-preserved g c =
@@ -19,27 +18,12 @@ loop-weekend-preserved g c =
     let into = c.args.into in
     let n = c.loop-weekend.weekend in
     let l = c.loop-weekend.labels in
-    let t = c.loop-weekend.trail in
     let i = c.loop-weekend.invariant in
-    let m = memory_of c.reset.new.self c.fresh-trail.result in
+    let m₀ = memory_of c.reset.new.self in
     elim c.if-has.branch [
-      | then-has y ↦ (
-        subst₂ (λ l t. Starting K B b into m (memory_of l t) (n + 1)) (sym y.labels-is) (sym y.trail-is)
-            (starting_more K B b into m l.heads _ l.sheet.now _ t n y.node_of-node.result y.soft_quote.result (omega arith) y.write.ensures.places (omega arith) (sym y.if-has.ensures)
-            (y.node_of-node.ensures.is ∙ ap (node n) c.class_of-class.ensures.value) y.soft_quote.ensures y.write.ensures.heads y.write.ensures.sheet i.0),
-        ap (λ l. l.sheet.ghost_name) y.labels-is ∙ y.write.ensures.same ∙ i.1,
-      )
-      | else-has y ↦ (
-        subst₂ (λ l t. Starting K B b into m (memory_of l t) (n + 1)) (sym y.labels-is) (sym y.trail-is) (starting_skip K B b into m (memory_of l t) n (sym y.if-has.ensures) i.0),
-        ap (λ l. l.sheet.ghost_name) y.labels-is ∙ i.1,
-      )
+      | then-has y ↦
+          let given = y.give.ensures in
+          starting_more K B b into m₀ (memory_of l) _ given.0 n y.node.result y.soft_quote.result (omega (arith, y.node.ensures.within)) l.sized.0 l.sized.1 l.sized.2 given.1 given.2 (sym y.if-has.ensures)
+          (y.node.ensures.is ∙ ap (node n) c.class_of-class.ensures.value) y.soft_quote.ensures (ap memory_of y.labels-is ∙ given.3) i
+      | else-has y ↦ subst (λ l. Starting K B b into m₀ (memory_of l) (n + 1)) (sym y.labels-is) (starting_skip K B b into m₀ (memory_of l) n (sym y.if-has.ensures) i)
     ]
-
-pub returns : goal.returns
-returns g c =
-    let B = posed_by g.S.Source g.S.Quote.Amount.kind c.args.self.now in
-    let i = c.loop-weekend.invariant in
-    record {
-      started = started g.met.S.Quote.Amount.lawful B c.args.book c.args.into _ (memory_of c.reset.new.self c.fresh-trail.result) _ c.loop-weekend.weekend (omega (arith, c.weekends-weekend-end.ensures)) c.reset.ensures.long c.reset.ensures.old i.0;
-      same = i.1 ∙ c.reset.ensures.same;
-    }

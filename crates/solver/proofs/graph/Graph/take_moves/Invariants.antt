@@ -1,9 +1,0 @@
-use Rattle.std.proofs.Common.{◌≡◌, ◌+◌, ◌*◌}
-use Rattle.solver.specs.Residual.{node}
-use Rattle.solver.specs.Held.{posed_by, memory_of, Relaxes}
-use Rattle.solver.proofs.graph.Graph.take_moves.Given as goal
-
-abbrev pub invariant-loop-book : goal.invariant-loop-book
-invariant-loop-book g l =
-    Relaxes g.S.Quote.Amount.kind (posed_by g.S.Source g.S.Quote.Amount.kind l.self) l.state (memory_of l.initial.labels l.initial.trail) (memory_of l.labels l.trail) (node l.weekend l.class) 129 (129 + l.book * 16)
-    × (l.labels.sheet.ghost_name ≡ l.initial.labels.sheet.ghost_name)

@@ -1,0 +1,8 @@
+use Rattle.plans.specs.Places.{at}
+use Rattle.solver.specs.Residual.{node}
+use Rattle.solver.specs.Held.{posed_by, memory_of, old_of}
+use Rattle.solver.specs.Levels.{Flat}
+use Rattle.solver.proofs.graph.Residual.label_weekend.Given as goal
+
+abbrev pub invariant-loop-class : goal.invariant-loop-class
+invariant-loop-class g l = Flat g.S.Quote.Amount.kind (posed_by g.S.Source g.S.Quote.Amount.kind l.self.graph.now) (at l.self.state.now.counts) (old_of g.S.Quote.Amount.kind (memory_of l.labels)) (node l.weekend l.class)

@@ -1,7 +1,0 @@
-use Rattle.std.proofs.Common.{◌≡◌, length}
-use Rattle.plans.specs.Posed.{meaning}
-use Rattle.solver.specs.Starting.{Placed}
-use Rattle.solver.proofs.start.first_state.Given as goal
-
-abbrev pub invariant-loop-book : goal.invariant-loop-book
-invariant-loop-book g l = Placed (meaning g.S.Source l.source) l.roster l.book l.state × (length l.state.sent ≡ 120) × (length l.state.words ≡ 120)

@@ -1,0 +1,7 @@
+use Rattle.std.proofs.Common.{refl}
+use Rattle.solver.specs.States.{words_of}
+use Rattle.solver.proofs.state.State.empty.Goals as goal
+
+pub returns-clause-words : goal.returns-clause-words
+unfolding words_of
+returns-clause-words c = refl
