@@ -1,6 +1,6 @@
 // The fields of one record that are longer than a byte, and the bytes that must be zero.
 ghost use Rattle.std.specs.Prelude.{◌≡◌, ◌+◌, length, ◌≤◌, ◌==◌, not, drop, position, slice_range, Ok};
-ghost use Rattle.planfile.specs.Fields.{strain as strain_of, money as money_of, price_of, spare_bytes as the_spare_bytes};
+ghost use Rattle.planfile.specs.Fields.{price_of, spare_bytes as the_spare_bytes};
 ghost use Rattle.planfile.specs.Records.{zeros as the_zeros};
 
 use crate::progress::FileKind;
@@ -42,30 +42,14 @@ pub(crate) fn spare_bytes(kind: FileKind) -> usize
     }
 }
 
-// Bytes 4 to 7 of a record.
-#[tactic(auto, unfolding(crate::specs::Fields::strain))]
-fn strain(raw: &[u8; 16]) -> i32
-    ensures { result ≡ strain_of raw.now }
-{
-    let [_, _, _, _, a, b, c, d, ..] = raw;
-    i32::from_le_bytes([*a, *b, *c, *d])
-}
-
-// Bytes 8 to 15 of a record.
-#[tactic(auto, unfolding(crate::specs::Fields::money))]
-fn money(raw: &[u8; 16]) -> i64
-    ensures { result ≡ money_of raw.now }
-{
-    let [.., a, b, c, d, e, f, g, h] = raw;
-    i64::from_le_bytes([*a, *b, *c, *d, *e, *f, *g, *h])
-}
-
-// Bytes 4 to 15 of a record.
+// Bytes 4 to 15 of a record: the strain in four of them, and the money in eight.
+#[tactic(auto, unfolding(crate::specs::Fields::strain, crate::specs::Fields::money))]
 pub(crate) fn read_price(raw: &[u8; 16]) -> Price
     ensures { result ≡ price_of raw.now }
 {
+    let [_, _, _, _, a, b, c, d, e, f, g, h, i, j, k, l] = *raw;
     Price {
-        strain: strain(raw),
-        money: money(raw),
+        strain: i32::from_le_bytes([a, b, c, d]),
+        money: i64::from_le_bytes([e, f, g, h, i, j, k, l]),
     }
 }
