@@ -7,10 +7,8 @@ use std::test::Fail;
 
 // The number, the record and the byte of a refusal; None where the file is accepted.
 pub(crate) fn told(kind: FileKind, file: &[u8]) -> Option<(u8, usize, u8)> {
-    match read(kind, file) {
-        Ok(_) => None,
-        Err(fault) => Some((fault.refusal.number(), fault.record, fault.byte)),
-    }
+    let fault = read(kind, file).err()?;
+    Some((fault.refusal.number(), fault.record, fault.byte))
 }
 
 // A record of board Z, what it is replaced by, and the refusal that is then told of it, by its number and its byte;
