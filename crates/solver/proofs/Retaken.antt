@@ -12,7 +12,7 @@ use Rattle.plans.specs.Theorems.{Sound}
 use Rattle.solver.specs.declared.marks.Mark.{Mark}
 use Rattle.solver.specs.declared.state.State.{State}
 use Rattle.solver.specs.Soft.{soft_kind, softened}
-use Rattle.solver.specs.Residual.{node, quoted, moving, Counts, Inside}
+use Rattle.solver.specs.Residual.{node, quoted, moving, Counts}
 use Rattle.solver.specs.Search.{nodes}
 use Rattle.solver.specs.Flows.{Straight, Shown, soft_charges}
 use Rattle.solver.specs.Held.{Memory, old_of, new_of, seen_of, rank_of, via_of, word_at, SearchableIn, Searches, ShownIn, Walkable}
