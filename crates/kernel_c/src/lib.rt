@@ -2,16 +2,14 @@
 #![tactic(auto)]
 
 use amounts::Money;
-use plans::{Bounds, Roster};
+use plans::{Bounds, Roster, Setting};
 use solver::{Unsolved, solve};
 use sources::QuoteTable;
 use std::array;
 
 // The first quotes as amounts, and zero behind them.
 fn amounts_of(quotes: &[i64]) -> [Money; 1920] {
-    array::from_fn(|place| Money {
-        value: quotes.get(place).copied().unwrap_or(0),
-    })
+    array::from_fn(|place| Money::from(quotes.get(place).copied().unwrap_or(0)))
 }
 
 // The first words, and zero behind them.
@@ -53,8 +51,13 @@ pub extern "C" fn solve_money(
     let words = words_of(words);
     let source = QuoteTable::new(books, weekends, &amounts, &words);
     let bounds = bounds_of(books, bounds);
-    let mut work = [Money { value: 0 }; 1024];
-    match solve(&source, &roster, &bounds, &mut work) {
+    let setting = Setting {
+        source: &source,
+        roster: &roster,
+        bounds: &bounds,
+    };
+    let mut work = [Money::from(0); 1024];
+    match solve(&setting, &mut work) {
         Ok(weekends) => {
             for (place, weekend) in sent.iter_mut().zip(weekends) {
                 *place = weekend;

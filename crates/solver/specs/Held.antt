@@ -11,9 +11,9 @@ use Rattle.sources.specs.Tables.{bit_at}
 use Rattle.sources.specs.declared.meaning.Source.{Ghosts}
 use Rattle.plans.specs.Places.{at}
 use Rattle.plans.specs.Problem.{Problem}
-use Rattle.plans.specs.Posed.{meaning, problem}
+use Rattle.plans.specs.Posed.{put}
+use Rattle.plans.specs.declared.setting.Setting.{Setting}
 use Rattle.solver.specs.declared.arcs.Arc.{Arc}
-use Rattle.solver.specs.declared.graph.Graph.{Graph}
 use Rattle.solver.specs.declared.labels.Labels.{Labels}
 use Rattle.solver.specs.declared.marks.Mark.{Mark}
 use Rattle.solver.specs.declared.nodes.Spot.{Spot}
@@ -146,9 +146,9 @@ pub record WordOf {V : Type 0} (K : Kind V) (row : ℕ → Option V) (weeks : �
   pub bits : (w : ℕ) → bit_at word w ≡ is_some (row w)
   pub light : (w : ℕ) → w < weeks → IfSome (row w) (λ x. K.weight x ≤ 10 ^ 9)
 
--- the problem of a graph, where no limit is looked at
-abbrev pub posed_by : {S V : Type 0} → Ghosts S V → Kind V → Graph S → Problem V
-posed_by source K g = problem (meaning source g.source.now) g.roster.now g.bounds.now K.none
+-- the problem of a setting, where no limit is looked at
+abbrev pub posed_by : {S V : Type 0} → Ghosts S V → Kind V → Setting S → Problem V
+posed_by source K s = put source s K.none
 
 -- the spot is one of the problem's classes at one of its weekends
 abbrev pub Stands : {V : Type 0} → Problem V → Spot → Type 0

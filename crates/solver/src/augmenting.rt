@@ -36,8 +36,8 @@ fn put(state: &mut State, book: usize, weekend: usize, into: u16)
 impl<'a, S: Source> Graph<'a, S> {
     // Undoes the arc that leads to the hole, and answers the node that it comes from: the hole is there now.
     fn undo(&self, state: &mut State, arc: Arc) -> usize
-        requires { Undoable self.now.roster.now.classes state.old arc }
-        ensures next { result ≡ tail (posed_by S.Source S.Quote.Amount.kind self.now) (at (sent_of state.old)) arc }
+        requires { Undoable self.now.setting.roster.now.classes state.old arc }
+        ensures next { result ≡ tail (posed_by S.Source S.Quote.Amount.kind self.now.setting) (at (sent_of state.old)) arc }
         ensures after { Undone state.old state.new arc }
     {
         match arc {
@@ -49,10 +49,10 @@ impl<'a, S: Source> Graph<'a, S> {
             Arc::Fall(weekend, class) => {
                 let spot = Spot { weekend, class };
                 state.counts[spot.node()] -= 1;
-                spot.above(self.roster)
+                spot.above(self.setting.roster)
             }
             Arc::Move(book, weekend) => {
-                let from = state.spot_of(self.roster, book);
+                let from = state.spot_of(self.setting.roster, book);
                 state.send(book, weekend);
                 from.node()
             }
@@ -69,11 +69,11 @@ impl<'a, S: Source> Graph<'a, S> {
         book: usize,
         into: u16,
     )
-        requires { Walkable S.Quote.Amount.kind (posed_by S.Source S.Quote.Amount.kind self.now) state.old (memory_of labels.old) book into }
-        ensures shown { ShownIn S.Quote.Amount.kind (posed_by S.Source S.Quote.Amount.kind self.now) state.new (old_of S.Quote.Amount.kind (memory_of labels.new)) }
+        requires { Walkable S.Quote.Amount.kind (posed_by S.Source S.Quote.Amount.kind self.now.setting) state.old (memory_of labels.old) book into }
+        ensures shown { ShownIn S.Quote.Amount.kind (posed_by S.Source S.Quote.Amount.kind self.now.setting) state.new (old_of S.Quote.Amount.kind (memory_of labels.new)) }
         ensures words { words_of state.new ≡ slice_set (words_of state.old) book into }
     {
-        let mut hole = state.spot_of(self.roster, book).node();
+        let mut hole = state.spot_of(self.setting.roster, book).node();
         while let Some(arc) = labels.reached_by(hole) {
             hole = self.undo(state, arc);
         }

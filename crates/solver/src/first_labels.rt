@@ -33,25 +33,25 @@ fn level<X: Amount>(lower: usize, upper: usize, members: usize) -> Ranked<Money,
 impl<'a, S: Source> Residual<'a, S> {
     // Gives the node of a spot its label, from that of the node above.
     fn label_spot(&self, labels: &mut Labels<'_, S::Quote>, spot: Spot)
-        requires { Stands (posed_by S.Source S.Quote.Amount.kind self.now.graph.now) spot }
-        ensures { Labelled S.Quote.Amount.kind (posed_by S.Source S.Quote.Amount.kind self.now.graph.now) (at self.now.state.now.counts) (old_of S.Quote.Amount.kind (memory_of labels.old)) (old_of S.Quote.Amount.kind (memory_of labels.new)) spot.weekend spot.class }
+        requires { Stands (posed_by S.Source S.Quote.Amount.kind self.now.setting) spot }
+        ensures { Labelled S.Quote.Amount.kind (posed_by S.Source S.Quote.Amount.kind self.now.setting) (at self.now.state.now.counts) (old_of S.Quote.Amount.kind (memory_of labels.old)) (old_of S.Quote.Amount.kind (memory_of labels.new)) spot.weekend spot.class }
     {
         let node = spot.node();
-        let lower = self.graph.bounds.lower(spot.weekend, spot.class);
-        let upper = self.graph.bounds.upper(spot.weekend, spot.class);
+        let lower = self.setting.bounds.lower(spot.weekend, spot.class);
+        let upper = self.setting.bounds.upper(spot.weekend, spot.class);
         let entry = level::<S::Quote>(lower, upper, self.state.counts[node]);
-        let over = labels.read(spot.above(self.graph.roster));
+        let over = labels.read(spot.above(self.setting.roster));
         labels.write(node, over.sum(entry.opposite()));
     }
 
     // Gives the nodes of a weekend their labels. A parent has a smaller number than its classes, so that its label is there before theirs.
     fn label_weekend(&self, labels: &mut Labels<'_, S::Quote>, weekend: usize)
-        requires weekend { weekend < S.Source.weeks self.now.graph.now.source.now }
-        requires sound { Sound S.Quote.Amount.kind (posed_by S.Source S.Quote.Amount.kind self.now.graph.now) }
-        requires flat { Flat S.Quote.Amount.kind (posed_by S.Source S.Quote.Amount.kind self.now.graph.now) (at self.now.state.now.counts) (old_of S.Quote.Amount.kind (memory_of labels.old)) (the_node weekend 0) }
-        ensures { Flat S.Quote.Amount.kind (posed_by S.Source S.Quote.Amount.kind self.now.graph.now) (at self.now.state.now.counts) (old_of S.Quote.Amount.kind (memory_of labels.new)) (the_node (weekend + 1) 0) }
+        requires weekend { weekend < S.Source.weeks self.now.setting.source.now }
+        requires sound { Sound S.Quote.Amount.kind (posed_by S.Source S.Quote.Amount.kind self.now.setting) }
+        requires flat { Flat S.Quote.Amount.kind (posed_by S.Source S.Quote.Amount.kind self.now.setting) (at self.now.state.now.counts) (old_of S.Quote.Amount.kind (memory_of labels.old)) (the_node weekend 0) }
+        ensures { Flat S.Quote.Amount.kind (posed_by S.Source S.Quote.Amount.kind self.now.setting) (at self.now.state.now.counts) (old_of S.Quote.Amount.kind (memory_of labels.new)) (the_node (weekend + 1) 0) }
     {
-        for class in 0..self.graph.roster.classes() {
+        for class in 0..self.setting.roster.classes() {
             self.label_spot(labels, Spot { weekend, class });
         }
     }
@@ -59,11 +59,11 @@ impl<'a, S: Source> Residual<'a, S> {
     // Gives every node its label, where all labels are zero at first and each word has only the weekend of its book.
     pub(crate) fn first_labels(&self, labels: &mut Labels<'_, S::Quote>)
         requires blank { (v : ℕ) → old_of S.Quote.Amount.kind (memory_of labels.old) v ≡ (soft_kind S.Quote.Amount.kind).none }
-        requires sound { Sound S.Quote.Amount.kind (posed_by S.Source S.Quote.Amount.kind self.now.graph.now) }
-        requires begun { Begun (meaning S.Source self.now.graph.now.source.now) self.now.graph.now.roster.now self.now.state.now }
-        ensures { ShownIn S.Quote.Amount.kind (posed_by S.Source S.Quote.Amount.kind self.now.graph.now) self.now.state.now (old_of S.Quote.Amount.kind (memory_of labels.new)) }
+        requires sound { Sound S.Quote.Amount.kind (posed_by S.Source S.Quote.Amount.kind self.now.setting) }
+        requires begun { Begun (meaning S.Source self.now.setting.source.now) self.now.setting.roster.now self.now.state.now }
+        ensures { ShownIn S.Quote.Amount.kind (posed_by S.Source S.Quote.Amount.kind self.now.setting) self.now.state.now (old_of S.Quote.Amount.kind (memory_of labels.new)) }
     {
-        for weekend in 0..self.graph.source.weekends() {
+        for weekend in 0..self.setting.source.weekends() {
             self.label_weekend(labels, weekend);
         }
     }

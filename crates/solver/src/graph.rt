@@ -1,18 +1,16 @@
-// What a search is made over, and does not change.
+// What a search is made over.
 use crate::state::State;
-use plans::{Bounds, Roster};
+use plans::Setting;
 
-// The source of the quotes, the classes, and the bounds.
+// The setting of a problem, which a search does not change.
 #[derive(Drop)]
 pub(crate) struct Graph<'a, S> {
-    pub(crate) source: &'a S,
-    pub(crate) roster: &'a Roster,
-    pub(crate) bounds: &'a Bounds,
+    pub(crate) setting: Setting<'a, S>,
 }
 
 // The residual graph of an assignment.
 #[derive(Drop)]
 pub(crate) struct Residual<'a, S> {
-    pub(crate) graph: &'a Graph<'a, S>,
+    pub(crate) setting: Setting<'a, S>,
     pub(crate) state: &'a State,
 }

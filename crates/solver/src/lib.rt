@@ -22,7 +22,6 @@ mod start;
 mod starting;
 mod state;
 mod unsolved;
-mod words;
 
 pub use arcs::Arc;
 pub use flow_promises::{

@@ -23,15 +23,15 @@ impl<'a, S: Source> Graph<'a, S> {
         book: usize,
         into: u16,
     )
-        requires book { book < S.Source.count self.now.source.now }
-        requires some { (x : ℕ) × (x < S.Source.weeks self.now.source.now) × (bit_at into x ≡ true) }
-        requires sound { Sound S.Quote.Amount.kind (posed_by S.Source S.Quote.Amount.kind self.now) }
-        requires shown { ShownIn S.Quote.Amount.kind (posed_by S.Source S.Quote.Amount.kind self.now) state.old (old_of S.Quote.Amount.kind (memory_of labels.old)) }
-        ensures shown { ShownIn S.Quote.Amount.kind (posed_by S.Source S.Quote.Amount.kind self.now) state.new (old_of S.Quote.Amount.kind (memory_of labels.new)) }
+        requires book { book < S.Source.count self.now.setting.source.now }
+        requires some { (x : ℕ) × (x < S.Source.weeks self.now.setting.source.now) × (bit_at into x ≡ true) }
+        requires sound { Sound S.Quote.Amount.kind (posed_by S.Source S.Quote.Amount.kind self.now.setting) }
+        requires shown { ShownIn S.Quote.Amount.kind (posed_by S.Source S.Quote.Amount.kind self.now.setting) state.old (old_of S.Quote.Amount.kind (memory_of labels.old)) }
+        ensures shown { ShownIn S.Quote.Amount.kind (posed_by S.Source S.Quote.Amount.kind self.now.setting) state.new (old_of S.Quote.Amount.kind (memory_of labels.new)) }
         ensures words { words_of state.new ≡ slice_set (words_of state.old) book into }
     {
         let residual = Residual {
-            graph: &*self,
+            setting: self.setting,
             state: &*state,
         };
         if residual.stays(labels, book, into) {
@@ -47,9 +47,9 @@ impl<'a, S: Source> Graph<'a, S> {
 impl<'a, S: Source> Residual<'a, S> {
     // Finds labels anew, by a search from all nodes: they are as valid as before, light, and at most zero.
     pub(crate) fn refresh(&self, labels: &mut Labels<'_, S::Quote>)
-        requires sound { Sound S.Quote.Amount.kind (posed_by S.Source S.Quote.Amount.kind self.now.graph.now) }
-        requires shown { ShownIn S.Quote.Amount.kind (posed_by S.Source S.Quote.Amount.kind self.now.graph.now) self.now.state.now (old_of S.Quote.Amount.kind (memory_of labels.old)) }
-        ensures shown { ShownIn S.Quote.Amount.kind (posed_by S.Source S.Quote.Amount.kind self.now.graph.now) self.now.state.now (old_of S.Quote.Amount.kind (memory_of labels.new)) }
+        requires sound { Sound S.Quote.Amount.kind (posed_by S.Source S.Quote.Amount.kind self.now.setting) }
+        requires shown { ShownIn S.Quote.Amount.kind (posed_by S.Source S.Quote.Amount.kind self.now.setting) self.now.state.now (old_of S.Quote.Amount.kind (memory_of labels.old)) }
+        ensures shown { ShownIn S.Quote.Amount.kind (posed_by S.Source S.Quote.Amount.kind self.now.setting) self.now.state.now (old_of S.Quote.Amount.kind (memory_of labels.new)) }
         ensures low { (v : ℕ) → v < 129 → AtMost (soft_kind S.Quote.Amount.kind) (old_of S.Quote.Amount.kind (memory_of labels.new) v) (soft_kind S.Quote.Amount.kind).none }
     {
         labels.reset(Some(Mark {

@@ -9,65 +9,66 @@ ghost use Rattle.solver.specs.Held.{memory_of, posed_by, Relaxes, Stands};
 ghost use Rattle.solver.specs.States.{sent_of, words_of};
 
 use crate::arcs::Arc;
-use crate::graph::{Graph, Residual};
+use crate::graph::Residual;
 use crate::labels::Labels;
 use crate::network::{fall, rise};
 use crate::nodes::{NEW, SINK, Spot};
-use crate::words::has;
 use amounts::{Amount, Money, Ranked};
-use sources::Source;
+use sources::{Source, has_weekend};
 
-impl<'a, S: Source> Graph<'a, S> {
-    // A quote behind no violation; a shut pair counts zero.
-    pub(crate) fn soft_quote(&self, book: usize, weekend: usize) -> Ranked<Money, S::Quote>
-        ensures { result ≡ or_none (soft_kind S.Quote.Amount.kind) (behind (S.Source.table self.now.source.now book weekend)) }
-    {
-        match self.source.quote(book, weekend) {
-            Some(quote) => Ranked {
-                first: Money { value: 0 },
-                second: quote,
-            },
-            None => Ranked::<Money, S::Quote>::zero(),
-        }
+// A quote behind no violation; a shut pair counts zero.
+pub(crate) fn soft_quote<S: Source>(
+    source: &S,
+    book: usize,
+    weekend: usize,
+) -> Ranked<Money, S::Quote>
+    ensures { result ≡ or_none (soft_kind S.Quote.Amount.kind) (behind (S.Source.table source.now book weekend)) }
+{
+    match source.quote(book, weekend) {
+        Some(quote) => Ranked {
+            first: Money { value: 0 },
+            second: quote,
+        },
+        None => Ranked::<Money, S::Quote>::zero(),
     }
 }
 
 impl<'a, S: Source> Residual<'a, S> {
     // The arc up from the node of a spot.
     fn take_rise(&self, labels: &mut Labels<'_, S::Quote>, spot: Spot)
-        requires { Stands (posed_by S.Source S.Quote.Amount.kind self.now.graph.now) spot }
-        ensures { Relaxes S.Quote.Amount.kind (posed_by S.Source S.Quote.Amount.kind self.now.graph.now) self.now.state.now (memory_of labels.old) (memory_of labels.new) (the_node spot.weekend spot.class) 0 1 }
+        requires { Stands (posed_by S.Source S.Quote.Amount.kind self.now.setting) spot }
+        ensures { Relaxes S.Quote.Amount.kind (posed_by S.Source S.Quote.Amount.kind self.now.setting) self.now.state.now (memory_of labels.old) (memory_of labels.new) (the_node spot.weekend spot.class) 0 1 }
     {
         let node = spot.node();
-        let lower = self.graph.bounds.lower(spot.weekend, spot.class);
-        let upper = self.graph.bounds.upper(spot.weekend, spot.class);
+        let lower = self.setting.bounds.lower(spot.weekend, spot.class);
+        let upper = self.setting.bounds.upper(spot.weekend, spot.class);
         let cost = rise::<S::Quote>(lower, upper, self.state.counts[node]);
         let label = labels.read(NEW + node).sum(cost);
-        let head = spot.above(self.graph.roster);
+        let head = spot.above(self.setting.roster);
         labels.offer(head, label, Arc::Rise(spot.weekend, spot.class));
     }
 
     // The arc down to the node of a spot.
     fn take_fall(&self, labels: &mut Labels<'_, S::Quote>, spot: Spot)
-        requires { Stands (posed_by S.Source S.Quote.Amount.kind self.now.graph.now) spot }
-        ensures { Relaxes S.Quote.Amount.kind (posed_by S.Source S.Quote.Amount.kind self.now.graph.now) self.now.state.now (memory_of labels.old) (memory_of labels.new) (the_above (at self.now.graph.now.roster.now.parents) spot.weekend spot.class) (1 + the_node spot.weekend spot.class) (2 + the_node spot.weekend spot.class) }
+        requires { Stands (posed_by S.Source S.Quote.Amount.kind self.now.setting) spot }
+        ensures { Relaxes S.Quote.Amount.kind (posed_by S.Source S.Quote.Amount.kind self.now.setting) self.now.state.now (memory_of labels.old) (memory_of labels.new) (the_above (at self.now.setting.roster.now.parents) spot.weekend spot.class) (1 + the_node spot.weekend spot.class) (2 + the_node spot.weekend spot.class) }
     {
         let node = spot.node();
-        let lower = self.graph.bounds.lower(spot.weekend, spot.class);
-        let upper = self.graph.bounds.upper(spot.weekend, spot.class);
+        let lower = self.setting.bounds.lower(spot.weekend, spot.class);
+        let upper = self.setting.bounds.upper(spot.weekend, spot.class);
         let cost = fall::<S::Quote>(lower, upper, self.state.counts[node]);
-        let tail = spot.above(self.graph.roster);
+        let tail = spot.above(self.setting.roster);
         let label = labels.read(NEW + tail).sum(cost);
         labels.offer(node, label, Arc::Fall(spot.weekend, spot.class));
     }
 
     // The arcs down from the node of a spot, to those of the classes right below it.
     fn take_falls(&self, labels: &mut Labels<'_, S::Quote>, spot: Spot)
-        requires { Stands (posed_by S.Source S.Quote.Amount.kind self.now.graph.now) spot }
-        ensures { Relaxes S.Quote.Amount.kind (posed_by S.Source S.Quote.Amount.kind self.now.graph.now) self.now.state.now (memory_of labels.old) (memory_of labels.new) (the_node spot.weekend spot.class) 1 129 }
+        requires { Stands (posed_by S.Source S.Quote.Amount.kind self.now.setting) spot }
+        ensures { Relaxes S.Quote.Amount.kind (posed_by S.Source S.Quote.Amount.kind self.now.setting) self.now.state.now (memory_of labels.old) (memory_of labels.new) (the_node spot.weekend spot.class) 1 129 }
     {
-        for class in 1..self.graph.roster.classes() {
-            if self.graph.roster.parent(class) == spot.class {
+        for class in 1..self.setting.roster.classes() {
+            if self.setting.roster.parent(class) == spot.class {
                 let weekend = spot.weekend;
                 self.take_fall(labels, Spot { weekend, class });
             }
@@ -76,9 +77,9 @@ impl<'a, S: Source> Residual<'a, S> {
 
     // The arcs down from the sink, to class 0 at each weekend.
     fn take_sink(&self, labels: &mut Labels<'_, S::Quote>)
-        ensures { Relaxes S.Quote.Amount.kind (posed_by S.Source S.Quote.Amount.kind self.now.graph.now) self.now.state.now (memory_of labels.old) (memory_of labels.new) 128 0 2049 }
+        ensures { Relaxes S.Quote.Amount.kind (posed_by S.Source S.Quote.Amount.kind self.now.setting) self.now.state.now (memory_of labels.old) (memory_of labels.new) 128 0 2049 }
     {
-        for weekend in 0..self.graph.source.weekends() {
+        for weekend in 0..self.setting.source.weekends() {
             self.take_fall(labels, Spot { weekend, class: 0 });
         }
     }
@@ -91,16 +92,16 @@ impl<'a, S: Source> Residual<'a, S> {
         weekend: usize,
         leaving: Ranked<Money, S::Quote>,
     )
-        requires book { book < S.Source.count self.now.graph.now.source.now }
-        requires sent { at (sent_of self.now.state.now) book < S.Source.weeks self.now.graph.now.source.now }
-        requires weekend { weekend < S.Source.weeks self.now.graph.now.source.now }
+        requires book { book < S.Source.count self.now.setting.source.now }
+        requires sent { at (sent_of self.now.state.now) book < S.Source.weeks self.now.setting.source.now }
+        requires weekend { weekend < S.Source.weeks self.now.setting.source.now }
         requires allowed { bit_at (slice_index (words_of self.now.state.now) book) weekend ≡ true }
-        requires leaving { leaving ≡ (soft_kind S.Quote.Amount.kind).minus (or_none (soft_kind S.Quote.Amount.kind) (behind (S.Source.table self.now.graph.now.source.now book (at (sent_of self.now.state.now) book)))) }
-        ensures { Relaxes S.Quote.Amount.kind (posed_by S.Source S.Quote.Amount.kind self.now.graph.now) self.now.state.now (memory_of labels.old) (memory_of labels.new) (the_node (at (sent_of self.now.state.now) book) (at self.now.graph.now.roster.now.homes book)) (129 + (book * 16 + weekend)) (130 + (book * 16 + weekend)) }
+        requires leaving { leaving ≡ (soft_kind S.Quote.Amount.kind).minus (or_none (soft_kind S.Quote.Amount.kind) (behind (S.Source.table self.now.setting.source.now book (at (sent_of self.now.state.now) book)))) }
+        ensures { Relaxes S.Quote.Amount.kind (posed_by S.Source S.Quote.Amount.kind self.now.setting) self.now.state.now (memory_of labels.old) (memory_of labels.new) (the_node (at (sent_of self.now.state.now) book) (at self.now.setting.roster.now.homes book)) (129 + (book * 16 + weekend)) (130 + (book * 16 + weekend)) }
     {
-        let from = self.state.spot_of(self.graph.roster, book);
+        let from = self.state.spot_of(self.setting.roster, book);
         let class = from.class;
-        let cost = self.graph.soft_quote(book, weekend).sum(leaving);
+        let cost = soft_quote(self.setting.source, book, weekend).sum(leaving);
         let label = labels.read(NEW + from.node()).sum(cost);
         let to = Spot { weekend, class };
         labels.offer(to.node(), label, Arc::Move(book, weekend));
@@ -108,15 +109,15 @@ impl<'a, S: Source> Residual<'a, S> {
 
     // The moves of a book to the weekends of its word.
     fn take_moves_of(&self, labels: &mut Labels<'_, S::Quote>, book: usize)
-        requires book { book < S.Source.count self.now.graph.now.source.now }
-        requires sent { at (sent_of self.now.state.now) book < S.Source.weeks self.now.graph.now.source.now }
-        ensures { Relaxes S.Quote.Amount.kind (posed_by S.Source S.Quote.Amount.kind self.now.graph.now) self.now.state.now (memory_of labels.old) (memory_of labels.new) (the_node (at (sent_of self.now.state.now) book) (at self.now.graph.now.roster.now.homes book)) (129 + book * 16) (129 + (book + 1) * 16) }
+        requires book { book < S.Source.count self.now.setting.source.now }
+        requires sent { at (sent_of self.now.state.now) book < S.Source.weeks self.now.setting.source.now }
+        ensures { Relaxes S.Quote.Amount.kind (posed_by S.Source S.Quote.Amount.kind self.now.setting) self.now.state.now (memory_of labels.old) (memory_of labels.new) (the_node (at (sent_of self.now.state.now) book) (at self.now.setting.roster.now.homes book)) (129 + book * 16) (129 + (book + 1) * 16) }
     {
         let word = self.state.word_of(book);
         let from = self.state.weekend_of(book);
-        let leaving = self.graph.soft_quote(book, from).opposite();
-        for weekend in 0..self.graph.source.weekends() {
-            if has(word, weekend) {
+        let leaving = soft_quote(self.setting.source, book, from).opposite();
+        for weekend in 0..self.setting.source.weekends() {
+            if has_weekend(word, weekend) {
                 self.take_move(labels, book, weekend, leaving);
             }
         }
@@ -125,18 +126,18 @@ impl<'a, S: Source> Residual<'a, S> {
     // Is the book at the spot?
     fn stands_at(&self, book: usize, spot: Spot) -> bool
         requires { book < 120 }
-        ensures { result ≡ (at (sent_of self.now.state.now) book == spot.weekend && at self.now.graph.now.roster.now.homes book == spot.class) }
+        ensures { result ≡ (at (sent_of self.now.state.now) book == spot.weekend && at self.now.setting.roster.now.homes book == spot.class) }
     {
         self.state.weekend_of(book) == spot.weekend
-            && self.graph.roster.class_of(book) == spot.class
+            && self.setting.roster.class_of(book) == spot.class
     }
 
     // The moves of the books that are at a spot.
     fn take_moves(&self, labels: &mut Labels<'_, S::Quote>, spot: Spot)
-        requires { Stands (posed_by S.Source S.Quote.Amount.kind self.now.graph.now) spot }
-        ensures { Relaxes S.Quote.Amount.kind (posed_by S.Source S.Quote.Amount.kind self.now.graph.now) self.now.state.now (memory_of labels.old) (memory_of labels.new) (the_node spot.weekend spot.class) 129 2049 }
+        requires { Stands (posed_by S.Source S.Quote.Amount.kind self.now.setting) spot }
+        ensures { Relaxes S.Quote.Amount.kind (posed_by S.Source S.Quote.Amount.kind self.now.setting) self.now.state.now (memory_of labels.old) (memory_of labels.new) (the_node spot.weekend spot.class) 129 2049 }
     {
-        for book in 0..self.graph.source.books() {
+        for book in 0..self.setting.source.books() {
             if self.stands_at(book, spot) {
                 self.take_moves_of(labels, book);
             }
@@ -146,14 +147,16 @@ impl<'a, S: Source> Residual<'a, S> {
     // All arcs out of a node. A number below 128 that is no class's node has none.
     pub(crate) fn relax(&self, labels: &mut Labels<'_, S::Quote>, node: usize)
         requires { node < 129 }
-        ensures { Relaxes S.Quote.Amount.kind (posed_by S.Source S.Quote.Amount.kind self.now.graph.now) self.now.state.now (memory_of labels.old) (memory_of labels.new) node 0 2049 }
+        ensures { Relaxes S.Quote.Amount.kind (posed_by S.Source S.Quote.Amount.kind self.now.setting) self.now.state.now (memory_of labels.old) (memory_of labels.new) node 0 2049 }
     {
         if node == SINK {
             self.take_sink(labels);
             return;
         }
         let spot = Spot::of(node);
-        if spot.weekend < self.graph.source.weekends() && spot.class < self.graph.roster.classes() {
+        if spot.weekend < self.setting.source.weekends()
+            && spot.class < self.setting.roster.classes()
+        {
             self.take_rise(labels, spot);
             self.take_falls(labels, spot);
             self.take_moves(labels, spot);

@@ -65,7 +65,7 @@ impl<'a, X: Amount> Labels<'a, X> {
 impl<'a, S: Source> Residual<'a, S> {
     // Settles every node that the nodes with a label lead to.
     pub(crate) fn search(&self, labels: &mut Labels<'_, S::Quote>)
-        ensures { Searches S.Quote.Amount.kind (posed_by S.Source S.Quote.Amount.kind self.now.graph.now) self.now.state.now (memory_of labels.old) (memory_of labels.new) }
+        ensures { Searches S.Quote.Amount.kind (posed_by S.Source S.Quote.Amount.kind self.now.setting) self.now.state.now (memory_of labels.old) (memory_of labels.new) }
     {
         for turn in 0..NODES {
             let Some(nearest) = labels.pick() else {

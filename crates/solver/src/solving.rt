@@ -1,7 +1,7 @@
 // A least assignment, from nothing.
 ghost use Rattle.std.specs.Prelude.{◌≡◌, ℕ, ◌<◌, ◌≤◌, true, length, MatchOption};
 ghost use Rattle.amounts.specs.Sums.{item};
-ghost use Rattle.plans.specs.Posed.{meaning, problem};
+ghost use Rattle.plans.specs.Posed.{put};
 ghost use Rattle.plans.specs.Theorems.{Sound};
 ghost use Rattle.plans.specs.Sheets.{stranded};
 ghost use Rattle.solver.specs.Soft.{soft_kind};
@@ -15,7 +15,7 @@ use crate::open_words::open_words;
 use crate::state::State;
 use crate::unsolved::Unsolved;
 use amounts::Amount;
-use plans::{Bounds, Roster};
+use plans::Setting;
 use sources::Source;
 
 // How many places a work sheet has at least.
@@ -24,13 +24,13 @@ const PLACES: usize = 1024;
 impl<'a, S: Source> Graph<'a, S> {
     // Lets each book go to the weekends of its word, one book after another.
     fn widen_all(&self, state: &mut State, labels: &mut Labels<'_, S::Quote>, words: &[u16; 120])
-        requires sound { Sound S.Quote.Amount.kind (posed_by S.Source S.Quote.Amount.kind self.now) }
-        requires some { (b : ℕ) → b < S.Source.count self.now.source.now → (x : ℕ) × (x < S.Source.weeks self.now.source.now) × (word_at words.now b x ≡ true) }
-        requires shown { ShownIn S.Quote.Amount.kind (posed_by S.Source S.Quote.Amount.kind self.now) state.old (old_of S.Quote.Amount.kind (memory_of labels.old)) }
-        ensures shown { ShownIn S.Quote.Amount.kind (posed_by S.Source S.Quote.Amount.kind self.now) state.new (old_of S.Quote.Amount.kind (memory_of labels.new)) }
-        ensures words { (b x : ℕ) → b < S.Source.count self.now.source.now → word_at (words_of state.new) b x ≡ word_at words.now b x }
+        requires sound { Sound S.Quote.Amount.kind (posed_by S.Source S.Quote.Amount.kind self.now.setting) }
+        requires some { (b : ℕ) → b < S.Source.count self.now.setting.source.now → (x : ℕ) × (x < S.Source.weeks self.now.setting.source.now) × (word_at words.now b x ≡ true) }
+        requires shown { ShownIn S.Quote.Amount.kind (posed_by S.Source S.Quote.Amount.kind self.now.setting) state.old (old_of S.Quote.Amount.kind (memory_of labels.old)) }
+        ensures shown { ShownIn S.Quote.Amount.kind (posed_by S.Source S.Quote.Amount.kind self.now.setting) state.new (old_of S.Quote.Amount.kind (memory_of labels.new)) }
+        ensures words { (b x : ℕ) → b < S.Source.count self.now.setting.source.now → word_at (words_of state.new) b x ≡ word_at words.now b x }
     {
-        for (book, word) in words[..self.source.books()].iter().enumerate() {
+        for (book, word) in words[..self.setting.source.books()].iter().enumerate() {
             self.reassign(state, labels, book, *word);
         }
     }
@@ -38,19 +38,19 @@ impl<'a, S: Source> Graph<'a, S> {
     // A least assignment, and labels that show it; none where a book has no open weekend.
     fn least_state(&self, labels: &mut Labels<'_, S::Quote>) -> Option<State>
         requires { (v : ℕ) → old_of S.Quote.Amount.kind (memory_of labels.old) v ≡ (soft_kind S.Quote.Amount.kind).none }
-        ensures found { MatchOption result (stranded (S.Source.count self.now.source.now) (S.Source.weeks self.now.source.now) (S.Source.table self.now.source.now) ≡ true) (λ s. SolvedIn S.Quote.Amount.kind (posed_by S.Source S.Quote.Amount.kind self.now) s (old_of S.Quote.Amount.kind (memory_of labels.new))) }
-        ensures sound { Sound S.Quote.Amount.kind (posed_by S.Source S.Quote.Amount.kind self.now) }
+        ensures found { MatchOption result (stranded (S.Source.count self.now.setting.source.now) (S.Source.weeks self.now.setting.source.now) (S.Source.table self.now.setting.source.now) ≡ true) (λ s. SolvedIn S.Quote.Amount.kind (posed_by S.Source S.Quote.Amount.kind self.now.setting) s (old_of S.Quote.Amount.kind (memory_of labels.new))) }
+        ensures sound { Sound S.Quote.Amount.kind (posed_by S.Source S.Quote.Amount.kind self.now.setting) }
     {
-        let words = open_words(self.source);
+        let words = open_words(self.setting.source);
         let mut state = self.first_state(&words)?;
         let first = Residual {
-            graph: &*self,
+            setting: self.setting,
             state: &state,
         };
         first.first_labels(labels);
         self.widen_all(&mut state, labels, &words);
         let last = Residual {
-            graph: &*self,
+            setting: self.setting,
             state: &state,
         };
         last.refresh(labels);
@@ -61,12 +61,10 @@ impl<'a, S: Source> Graph<'a, S> {
 // Finds an assignment that is least in violations of the bounds, and then in total, book by book. It needs a work sheet of 1,024 places: a shorter one is
 // left as it is, and of any other every place is zero at the end.
 pub fn solve<'a, S: Source>(
-    source: &'a S,
-    roster: &'a Roster,
-    bounds: &'a Bounds,
+    setting: &Setting<'a, S>,
     work: &mut [S::Quote],
 ) -> Result<[u8; 120], Unsolved>
-    ensures right { SolutionRight S.Quote.Amount.kind (problem (meaning S.Source source.now) roster.now bounds.now S.Quote.Amount.kind.none) (length work.old) result }
+    ensures right { SolutionRight S.Quote.Amount.kind (put S.Source setting.now S.Quote.Amount.kind.none) (length work.old) result }
     ensures unchanged { length work.old < 1024 → work.new ≡ work.old }
     ensures clean { 1024 ≤ length work.old → (i : ℕ) → item S.Quote.Amount.kind work.new i ≡ S.Quote.Amount.kind.none }
     ensures long { length work.new ≡ length work.old }
@@ -74,11 +72,7 @@ pub fn solve<'a, S: Source>(
     if work.len() < PLACES {
         return Err(Unsolved::Short);
     }
-    let graph = Graph {
-        source,
-        roster,
-        bounds,
-    };
+    let graph = Graph { setting: *setting };
     let found = graph.least_state(&mut Labels::over(&mut *work));
     clear_all(work);
     let state = found.ok_or(Unsolved::Stranded)?;

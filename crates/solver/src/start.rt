@@ -16,25 +16,17 @@ use crate::graph::{Graph, Residual};
 use crate::network::rise;
 use crate::nodes::Spot;
 use crate::state::State;
-use crate::words::has;
 use amounts::{Amount, Money, Ranked};
 use plans::Roster;
-use sources::Source;
+use sources::{Source, has_weekend};
 
 impl<'a, S: Source> Residual<'a, S> {
-    // The rises at a spot and at those of every class above it, added up.
-    fn rises(&self, spot: Spot) -> Ranked<Money, S::Quote>
-        requires { spot.class < self.now.graph.now.roster.now.classes }
-    {
+    // The rise at a spot.
+    fn rise_at(&self, spot: Spot) -> Ranked<Money, S::Quote> {
         let Spot { weekend, class } = spot;
-        let lower = self.graph.bounds.lower(weekend, class);
-        let upper = self.graph.bounds.upper(weekend, class);
-        let own = rise::<S::Quote>(lower, upper, self.state.counts[spot.node()]);
-        if class == 0 {
-            return own;
-        }
-        let class = self.graph.roster.parent(class);
-        own.sum(self.rises(Spot { weekend, class }))
+        let lower = self.setting.bounds.lower(weekend, class);
+        let upper = self.setting.bounds.upper(weekend, class);
+        rise::<S::Quote>(lower, upper, self.state.counts[spot.node()])
     }
 
     // What it costs to send one more book to a weekend: the rises first, and then the quote.
@@ -42,9 +34,13 @@ impl<'a, S: Source> Residual<'a, S> {
         requires { weekend < 16 }
         ensures { result.place ≡ weekend }
     {
-        let class = self.graph.roster.class_of(book);
-        let mut cost = self.rises(Spot { weekend, class });
-        if let Some(quote) = self.graph.source.quote(book, weekend) {
+        let roster = self.setting.roster;
+        let rise_of = |class: usize|
+            requires near { weekend < 16 }
+            requires few { class < 8 }
+        { self.rise_at(Spot { weekend, class }) };
+        let mut cost = roster.sum_up(roster.class_of(book), &rise_of);
+        if let Some(quote) = self.setting.source.quote(book, weekend) {
             cost.second = cost.second.sum(quote);
         }
         Choice {
@@ -55,13 +51,13 @@ impl<'a, S: Source> Residual<'a, S> {
 
     // The cheapest choice among the open weekends of a book, if it has one; its word says where it is open.
     fn cheapest(&self, word: u16, book: usize) -> Option<Choice<Ranked<Money, S::Quote>>>
-        requires { (w : ℕ) → bit_at word w ≡ is_some (S.Source.table self.now.graph.now.source.now book w) }
-        ensures { Found (S.Source.table self.now.graph.now.source.now book) (S.Source.weeks self.now.graph.now.source.now) result }
+        requires { (w : ℕ) → bit_at word w ≡ is_some (S.Source.table self.now.setting.source.now book w) }
+        ensures { Found (S.Source.table self.now.setting.source.now book) (S.Source.weeks self.now.setting.source.now) result }
     {
         let mut found = None;
         // Stays: as a chain with `min_by` it is proved that an open weekend is answered, and not that none is open where none is ("`search`: no proof").
-        for weekend in 0..self.graph.source.weekends() {
-            if has(word, weekend) {
+        for weekend in 0..self.setting.source.weekends() {
+            if has_weekend(word, weekend) {
                 found = Some(cheaper(found, self.price_weekend(book, weekend)));
             }
         }
@@ -86,17 +82,17 @@ fn place(state: &mut State, roster: &Roster, book: usize, weekend: usize)
 impl<'a, S: Source> Graph<'a, S> {
     // `words` says where the books are open. None where a book is open nowhere.
     pub(crate) fn first_state(&self, words: &[u16; 120]) -> Option<State>
-        requires { (b w : ℕ) → word_at words.now b w ≡ is_some (S.Source.table self.now.source.now b w) }
-        ensures { MatchOption result (stranded (S.Source.count self.now.source.now) (S.Source.weeks self.now.source.now) (S.Source.table self.now.source.now) ≡ true) (Begun (meaning S.Source self.now.source.now) self.now.roster.now) }
+        requires { (b w : ℕ) → word_at words.now b w ≡ is_some (S.Source.table self.now.setting.source.now b w) }
+        ensures { MatchOption result (stranded (S.Source.count self.now.setting.source.now) (S.Source.weeks self.now.setting.source.now) (S.Source.table self.now.setting.source.now) ≡ true) (Begun (meaning S.Source self.now.setting.source.now) self.now.setting.roster.now) }
     {
         let mut state = State::empty();
-        for (book, word) in words[..self.source.books()].iter().enumerate() {
+        for (book, word) in words[..self.setting.source.books()].iter().enumerate() {
             let residual = Residual {
-                graph: &*self,
+                setting: self.setting,
                 state: &state,
             };
             let best = residual.cheapest(*word, book)?;
-            place(&mut state, self.roster, book, best.place);
+            place(&mut state, self.setting.roster, book, best.place);
         }
         Some(state)
     }

@@ -10,22 +10,26 @@ ghost use Rattle.solver.specs.States.{sent_of};
 use crate::graph::{Graph, Residual};
 use crate::labels::Labels;
 use crate::nodes::Spot;
-use crate::words::has;
+use crate::relaxing::soft_quote;
 use amounts::{Amount, Money, Ranked};
-use sources::Source;
+use sources::{Source, has_weekend};
 
 impl<'a, S: Source> Graph<'a, S> {
     // Lets a search start from the book's class at the weekends of the word `into`: there the quotes are the first labels.
     pub(crate) fn start_at(&self, labels: &mut Labels<'_, S::Quote>, book: usize, into: u16)
-        requires { book < S.Source.count self.now.source.now }
-        ensures { Started S.Quote.Amount.kind (posed_by S.Source S.Quote.Amount.kind self.now) (memory_of labels.old) (memory_of labels.new) book into }
+        requires { book < S.Source.count self.now.setting.source.now }
+        ensures { Started S.Quote.Amount.kind (posed_by S.Source S.Quote.Amount.kind self.now.setting) (memory_of labels.old) (memory_of labels.new) book into }
     {
         labels.reset(None);
-        let class = self.roster.class_of(book);
-        for weekend in 0..self.source.weekends() {
-            if has(into, weekend) {
+        let class = self.setting.roster.class_of(book);
+        for weekend in 0..self.setting.source.weekends() {
+            if has_weekend(into, weekend) {
                 let spot = Spot { weekend, class };
-                labels.give(spot.node(), self.soft_quote(book, weekend), None);
+                labels.give(
+                    spot.node(),
+                    soft_quote(self.setting.source, book, weekend),
+                    None,
+                );
             }
         }
     }
@@ -40,36 +44,36 @@ impl<'a, S: Source> Residual<'a, S> {
         weekend: usize,
         leaving: Ranked<Money, S::Quote>,
     ) -> bool
-        requires book { book < S.Source.count self.now.graph.now.source.now }
-        requires sent { at (sent_of self.now.state.now) book < S.Source.weeks self.now.graph.now.source.now }
-        requires weekend { weekend < S.Source.weeks self.now.graph.now.source.now }
-        requires leaving { leaving ≡ (soft_kind S.Quote.Amount.kind).minus (or_none (soft_kind S.Quote.Amount.kind) (behind (S.Source.table self.now.graph.now.source.now book (at (sent_of self.now.state.now) book)))) }
-        ensures value { result ≡ stays_by S.Quote.Amount.kind (posed_by S.Source S.Quote.Amount.kind self.now.graph.now) self.now.state.now (old_of S.Quote.Amount.kind (memory_of labels.old)) book weekend }
+        requires book { book < S.Source.count self.now.setting.source.now }
+        requires sent { at (sent_of self.now.state.now) book < S.Source.weeks self.now.setting.source.now }
+        requires weekend { weekend < S.Source.weeks self.now.setting.source.now }
+        requires leaving { leaving ≡ (soft_kind S.Quote.Amount.kind).minus (or_none (soft_kind S.Quote.Amount.kind) (behind (S.Source.table self.now.setting.source.now book (at (sent_of self.now.state.now) book)))) }
+        ensures value { result ≡ stays_by S.Quote.Amount.kind (posed_by S.Source S.Quote.Amount.kind self.now.setting) self.now.state.now (old_of S.Quote.Amount.kind (memory_of labels.old)) book weekend }
         ensures same { memory_of labels.new ≡ memory_of labels.old }
     {
-        let from = self.state.spot_of(self.graph.roster, book);
+        let from = self.state.spot_of(self.setting.roster, book);
         let class = from.class;
         let to = Spot { weekend, class };
-        let cost = self.graph.soft_quote(book, weekend).sum(leaving);
+        let cost = soft_quote(self.setting.source, book, weekend).sum(leaving);
         let most = labels.read(from.node()).sum(cost);
         labels.read(to.node()).compare(most).is_le()
     }
 
     // May the book stay where it is, and the labels stay as they are, where it may go to the weekends of the word `into`?
     pub(crate) fn stays(&self, labels: &mut Labels<'_, S::Quote>, book: usize, into: u16) -> bool
-        requires book { book < S.Source.count self.now.graph.now.source.now }
-        requires sent { at (sent_of self.now.state.now) book < S.Source.weeks self.now.graph.now.source.now }
-        ensures stays { result ≡ true → Stays S.Quote.Amount.kind (posed_by S.Source S.Quote.Amount.kind self.now.graph.now) self.now.state.now (old_of S.Quote.Amount.kind (memory_of labels.old)) book into }
+        requires book { book < S.Source.count self.now.setting.source.now }
+        requires sent { at (sent_of self.now.state.now) book < S.Source.weeks self.now.setting.source.now }
+        ensures stays { result ≡ true → Stays S.Quote.Amount.kind (posed_by S.Source S.Quote.Amount.kind self.now.setting) self.now.state.now (old_of S.Quote.Amount.kind (memory_of labels.old)) book into }
         ensures same { memory_of labels.new ≡ memory_of labels.old }
     {
         let from = self.state.weekend_of(book);
-        if !has(into, from) {
+        if !has_weekend(into, from) {
             return false;
         }
-        let leaving = self.graph.soft_quote(book, from).opposite();
+        let leaving = soft_quote(self.setting.source, book, from).opposite();
         // Stays: a label is read through the table, which is lent for writing; a closure that changes what it captures has no proof.
-        for weekend in 0..self.graph.source.weekends() {
-            if has(into, weekend) && !self.stays_by(labels, book, weekend, leaving) {
+        for weekend in 0..self.setting.source.weekends() {
+            if has_weekend(into, weekend) && !self.stays_by(labels, book, weekend, leaving) {
                 return false;
             }
         }

@@ -1,7 +1,7 @@
 use Rattle.std.proofs.Common.{◌≡◌, true, sym, ap, ◌∙◌, subst, MatchOption}
 use Rattle.std.specs.Result.{result_ok}
 use Rattle.plans.specs.Places.{at}
-use Rattle.plans.specs.Posed.{meaning, problem}
+use Rattle.plans.specs.Posed.{put}
 use Rattle.plans.specs.Sheets.{stranded}
 use Rattle.plans.proofs.Posing.{bounds_straight}
 use Rattle.solver.specs.Held.{memory_of, old_of}
@@ -12,8 +12,8 @@ use Rattle.solver.proofs.solving.solve.Goals as goal
 pub returns-clause-right : goal.returns-clause-right
 returns-clause-right g c =
     let K = g.S.Quote.Amount.kind in
-    let B = problem (meaning g.S.Source c.args.source.now) c.args.roster.now c.args.bounds.now K.none in
+    let B = put g.S.Source c.args.setting.now K.none in
     let e = c.least_state-found.ensures in
     let labels = old_of K (memory_of c.least_state-found.new.labels) in
     let solved = subst (λ o. MatchOption o (stranded B.books B.weekends B.quote ≡ true) (λ s. SolvedIn K B s labels)) (c.ok_or.ensures.ok_part ∙ ap result_ok c.in_ok-state.was) e.found in
-    (c.if-work-lt-PLACES.false, subst (λ p. LeastAssignment K B (at p)) (sym c.weekends.ensures) (least_of_lem g.met.S.Quote.Amount.lawful B e.sound (λ w k _ _. bounds_straight c.args.bounds.now w k) c.in_ok-state.state labels solved))
+    (c.if-work-lt-PLACES.false, subst (λ p. LeastAssignment K B (at p)) (sym c.weekends.ensures) (least_of_lem g.met.S.Quote.Amount.lawful B e.sound (λ w k _ _. bounds_straight c.args.setting.now.bounds.now w k) c.in_ok-state.state labels solved))

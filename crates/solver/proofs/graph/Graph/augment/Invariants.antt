@@ -7,7 +7,7 @@ use Rattle.solver.specs.States.{words_of}
 abbrev pub invariant-loop-arc : goal.invariant-loop-arc
 invariant-loop-arc g l =
     let K = g.S.Quote.Amount.kind in
-    WalksIn K (posed_by g.S.Source K l.self) (memory_of l.labels) l.book l.into l.state l.hole
+    WalksIn K (posed_by g.S.Source K l.self.setting) (memory_of l.labels) l.book l.into l.state l.hole
     × ((words_of l.state) ≡ (words_of l.initial.state))
     × (l.hole < 129)
 

@@ -5,4 +5,4 @@ use Rattle.solver.specs.States.{words_of}
 
 abbrev pub invariant-loop-book : goal.invariant-loop-book
 invariant-loop-book g l =
-    ShownIn g.S.Quote.Amount.kind (posed_by g.S.Source g.S.Quote.Amount.kind l.self) l.state (old_of g.S.Quote.Amount.kind (memory_of l.labels)) × Widened l.words (words_of l.state) l.book
+    ShownIn g.S.Quote.Amount.kind (posed_by g.S.Source g.S.Quote.Amount.kind l.self.setting) l.state (old_of g.S.Quote.Amount.kind (memory_of l.labels)) × Widened l.words (words_of l.state) l.book

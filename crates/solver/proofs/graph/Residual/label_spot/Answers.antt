@@ -11,7 +11,7 @@ use Rattle.solver.proofs.graph.Residual.label_spot.Goals as goal
 pub returns : goal.returns
 returns g c =
     let K = g.S.Quote.Amount.kind in
-    let B = posed_by g.S.Source K c.args.self.now.graph.now in
+    let B = posed_by g.S.Source K c.args.self.now.setting in
     let w = c.args.spot.weekend in
     let k = c.args.spot.class in
     let f = at c.args.self.now.state.now.counts in

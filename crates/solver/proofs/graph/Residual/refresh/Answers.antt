@@ -9,7 +9,7 @@ use Rattle.solver.proofs.graph.Residual.refresh.Goals as goal
 pub returns : goal.returns
 returns g c =
     let K = g.S.Quote.Amount.kind in
-    let graph = c.args.self.now.graph.now in
+    let graph = c.args.self.now.setting in
     let B = posed_by g.S.Source K graph in
     let state = c.args.self.now.state.now in
     let r = c.reset.ensures in

@@ -9,7 +9,7 @@ use Rattle.solver.proofs.graph.Residual.relax.Goals.{else-spot-weekends-via-then
 pub returns-then-spot-classes : goal.returns-then-spot-classes
 returns-then-spot-classes g c =
     let K = g.S.Quote.Amount.kind in
-    let B = posed_by g.S.Source K c.args.self.now.graph.now in
+    let B = posed_by g.S.Source K c.args.self.now.setting in
     let state = c.args.self.now.state.now in
     let v = c.args.node in
     let w = c.of-spot.result.weekend in
@@ -21,9 +21,9 @@ returns-then-spot-classes g c =
 
 pub returns-else-spot-weekends : goal.returns-else-spot-weekends
 returns-else-spot-weekends g c =
-    let B = posed_by g.S.Source g.S.Quote.Amount.kind c.args.self.now.graph.now in
+    let B = posed_by g.S.Source g.S.Quote.Amount.kind c.args.self.now.setting in
     let v = c.args.node in
-    let few = c.args.self.now.graph.now.roster.now.sound.1 in
+    let few = c.args.self.now.setting.roster.now.sound.1 in
     let s = c.of-spot.ensures in
     let apart : (w k : ℕ) → w < B.weekends → k < B.classes → v ≡ node w k → ⊥ = λ w k lw lk e.
     elim c.else-spot-weekends.branch [

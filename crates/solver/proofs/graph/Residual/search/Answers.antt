@@ -5,12 +5,12 @@ use Rattle.solver.proofs.Sought.{Sought, sought_begin, sought_next, sought_end, 
 use Rattle.solver.proofs.graph.Residual.search.Goals as goal
 
 pub loop-turn-init : goal.loop-turn-init
-loop-turn-init g c = sought_begin g.met.S.Quote.Amount.lawful (posed_by g.S.Source g.S.Quote.Amount.kind c.args.self.now.graph.now) c.args.self.now.state.now _ c.args.labels.now.sized.2
+loop-turn-init g c = sought_begin g.met.S.Quote.Amount.lawful (posed_by g.S.Source g.S.Quote.Amount.kind c.args.self.now.setting) c.args.self.now.state.now _ c.args.labels.now.sized.2
 
 pub returns-in_default : goal.returns-in_default
 returns-in_default g c =
     let L = g.met.S.Quote.Amount.lawful in
-    let B = posed_by g.S.Source g.S.Quote.Amount.kind c.args.self.now.graph.now in
+    let B = posed_by g.S.Source g.S.Quote.Amount.kind c.args.self.now.setting in
     let state = c.args.self.now.state.now in
     let e = c.in_default.ensures in
     let m₀ = memory_of c.args.labels.now in
@@ -21,7 +21,7 @@ pub loop-turn-preserved : goal.loop-turn-preserved
 loop-turn-preserved g c =
     let K = g.S.Quote.Amount.kind in
     let L = g.met.S.Quote.Amount.lawful in
-    let B = posed_by g.S.Source K c.args.self.now.graph.now in
+    let B = posed_by g.S.Source K c.args.self.now.setting in
     let state = c.args.self.now.state.now in
     let e = c.in-Some.ensures in
     let u = c.in-Some.nearest.place in
@@ -33,6 +33,6 @@ loop-turn-preserved g c =
 
 pub returns : goal.returns
 returns g c =
-    let B = posed_by g.S.Source g.S.Quote.Amount.kind c.args.self.now.graph.now in
+    let B = posed_by g.S.Source g.S.Quote.Amount.kind c.args.self.now.setting in
     let all : c.loop-turn.turn ≡ nodes = omega arith in
     sought_all g.met.S.Quote.Amount.lawful B c.args.self.now.state.now _ _ (rw all at c.loop-turn.invariant) c.loop-turn.labels.sized.2

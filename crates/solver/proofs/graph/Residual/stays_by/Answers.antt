@@ -12,7 +12,7 @@ use Rattle.solver.specs.States.{sent_of}
 pub returns-clause-value : goal.returns-clause-value
 returns-clause-value g c =
     let K = g.S.Quote.Amount.kind in
-    let B = posed_by g.S.Source K c.args.self.now.graph.now in
+    let B = posed_by g.S.Source K c.args.self.now.setting in
     let b = c.args.book in
     let x = c.args.weekend in
     let y = at (sent_of c.args.self.now.state.now) b in

@@ -7,14 +7,14 @@ use Rattle.solver.proofs.graph.Residual.take_falls.Goals.{then-parent-spot, else
 
 pub loop-class-init : goal.loop-class-init
 loop-class-init g c =
-    let B = posed_by g.S.Source g.S.Quote.Amount.kind c.args.self.now.graph.now in
+    let B = posed_by g.S.Source g.S.Quote.Amount.kind c.args.self.now.setting in
     falls_begin g.met.S.Quote.Amount.lawful B c.args.self.now.state.now c.args.spot.weekend c.args.spot.class c.requires.0 c.requires.1 _
 
 pub loop-class-preserved : goal.loop-class-preserved
 loop-class-preserved g c =
     let L = g.met.S.Quote.Amount.lawful in
     let K = g.S.Quote.Amount.kind in
-    let B = posed_by g.S.Source K c.args.self.now.graph.now in
+    let B = posed_by g.S.Source K c.args.self.now.setting in
     let state = c.args.self.now.state.now in
     let w = c.args.spot.weekend in
     let k = c.args.spot.class in
@@ -31,5 +31,5 @@ loop-class-preserved g c =
 
 pub returns : goal.returns
 returns g c =
-    let B = posed_by g.S.Source g.S.Quote.Amount.kind c.args.self.now.graph.now in
+    let B = posed_by g.S.Source g.S.Quote.Amount.kind c.args.self.now.setting in
     falls_end g.met.S.Quote.Amount.lawful B c.args.self.now.state.now c.args.spot.weekend c.args.spot.class c.requires.0 c.requires.1 _ _ c.loop-class.class c.loop-class.invariant (omega (arith, c.classes-class-end.ensures, c.loop-class-test.false))

@@ -12,7 +12,7 @@ use Rattle.solver.specs.States.{sent_of}
 pub returns : goal.returns
 returns g c =
     let K = g.S.Quote.Amount.kind in
-    let B = posed_by g.S.Source K c.args.self.now.graph.now in
+    let B = posed_by g.S.Source K c.args.self.now.setting in
     let state = c.args.self.now.state.now in
     let b = c.args.book in
     let x = c.args.weekend in

@@ -9,7 +9,7 @@ pub loop-book-preserved : goal.loop-book-preserved
 loop-book-preserved g c =
     let L = g.met.S.Quote.Amount.lawful in
     let K = g.S.Quote.Amount.kind in
-    let B = posed_by g.S.Source K c.args.self.now.graph.now in
+    let B = posed_by g.S.Source K c.args.self.now.setting in
     let state = c.args.self.now.state.now in
     let w = c.args.spot.weekend in
     let k = c.args.spot.class in
@@ -26,5 +26,5 @@ loop-book-preserved g c =
 
 pub returns : goal.returns
 returns g c =
-    let B = posed_by g.S.Source g.S.Quote.Amount.kind c.args.self.now.graph.now in
+    let B = posed_by g.S.Source g.S.Quote.Amount.kind c.args.self.now.setting in
     moves_end g.met.S.Quote.Amount.lawful B c.args.self.now.state.now c.args.spot.weekend c.args.spot.class c.requires.0 c.requires.1 _ _ c.loop-book.book c.loop-book.invariant (omega (arith, c.books-book-end.ensures, c.loop-book-test.false))

@@ -5,4 +5,4 @@ use Rattle.solver.proofs.graph.Residual.take_sink.Given as goal
 
 abbrev pub invariant-loop-weekend : goal.invariant-loop-weekend
 invariant-loop-weekend g l =
-    Relaxes g.S.Quote.Amount.kind (posed_by g.S.Source g.S.Quote.Amount.kind l.self.graph.now) l.self.state.now (memory_of l.initial.labels) (memory_of l.labels) 128 0 (1 + node l.weekend 0)
+    Relaxes g.S.Quote.Amount.kind (posed_by g.S.Source g.S.Quote.Amount.kind l.self.setting) l.self.state.now (memory_of l.initial.labels) (memory_of l.labels) 128 0 (1 + node l.weekend 0)
