@@ -1,5 +1,5 @@
 -- Tests below a number: each passes, some pass. Assumes nothing.
-use Rattle.std.proofs.Common.{◌≡◌, ℕ, zero, suc, ◌+◌, ◌<◌, Bool, true, false, cond, ◌||◌, List, is_some, Some, None, Option, sym, refl, ap, ◌∙◌, ap₂, ⊎_elim, length, zero-add, add-one, arith}
+use Rattle.std.proofs.Common.{◌≡◌, ℕ, zero, suc, ◌+◌, ◌<◌, Bool, true, false, cond, ◌||◌, List, is_some, Some, Option, sym, refl, ap, ◌∙◌, ap₂, ⊎_elim, length, zero-add, add-one, arith}
 use Rattle.std.specs.Bool.{MatchBool}
 use Rattle.std.specs.Fn.{Called}
 use Rattle.std.specs.Iterator.{YieldsThen}
@@ -12,8 +12,8 @@ use Rattle.std.proofs.lemmas.List.FromFn.{length-range_with_len, get_or-range_wi
 use denote.Param.Members.{Mut}
 use Rattle.std.proofs.lemmas.Bool.{cases_eq, and_parts, and_from, or_left, or_right, or_cases, or_from, false≢true}
 use Rattle.amounts.specs.Kind.{Kind}
-use Rattle.amounts.specs.Least.{better, least_of, or_none}
-use Rattle.plans.specs.Sheets.{each_below, some_below, smallest}
+use Rattle.amounts.specs.Least.{better, least_of}
+use Rattle.plans.specs.Sheets.{each_below, some_below}
 
 pub each_holds : (n : ℕ) (t : ℕ → Bool) → each_below n t ≡ true → (i : ℕ) → i < n → t i ≡ true
 unfolding each_below
@@ -96,20 +96,3 @@ module _ {V : Type 0} (K : Kind V) (t : ℕ → Bool) (v : ℕ → V) where
   least_same s u (suc n) e f =
       ap (λ b. cond b (Some (better K (least_of K n t v) (v n))) (least_of K n t v)) (e n (omega arith))
       ∙ ap₂ (λ r x. cond (s n) (Some (better K r x)) r) (least_same s u n (λ i l. e i (omega arith)) (λ i l. f i (omega arith))) (f n (omega arith))
-
-  pub least_more : (n : ℕ) → least_of K (n + 1) t v ≡ cond (t n) (Some (better K (least_of K n t v) (v n))) (least_of K n t v)
-  unfolding least_of
-  least_more n = rw add-one refl
-
--- one more weekend of a book, open or shut, as a loop counts
-module _ {V : Type 0} (K : Kind V) (quotes : ℕ → Option V) (tolls : ℕ → V) (n : ℕ) (found : Option V) (is : found ≡ smallest K n quotes tolls) where
-  quoted : (q : Option V) → q ≡ quotes n → smallest K (n + 1) quotes tolls ≡ cond (is_some q) (Some (better K found (K.plus (or_none K q) (tolls n)))) found
-  quoted q e =
-      least_more K (λ w. is_some (quotes w)) (λ w. K.plus (or_none K (quotes w)) (tolls w)) n
-      ∙ ap₂ (λ r o. cond (is_some o) (Some (better K r (K.plus (or_none K o) (tolls n)))) r) (sym is) (sym e)
-
-  pub smallest_open : (q : V) → Some q ≡ quotes n → Some (better K found (K.plus q (tolls n))) ≡ smallest K (n + 1) quotes tolls
-  smallest_open q e = sym (quoted (Some q) e)
-
-  pub smallest_shut : None ≡ quotes n → found ≡ smallest K (n + 1) quotes tolls
-  smallest_shut e = sym (quoted None e)

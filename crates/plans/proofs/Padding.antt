@@ -26,7 +26,6 @@ pub padded_long : (n : ℕ) (xs : List ℕ) → length xs ≤ n → length (padd
 padded_long n xs few = omega (arith, length-append xs (replicate (n - length xs) 0), length-replicate {A = ℕ} (n - length xs) 0)
 
 -- ---- a test of place and number
-
 pub passes_at : (t : ℕ → ℕ → Bool) (i : ℕ) (xs : List ℕ) → passes t i xs ≡ true → (j : ℕ) → j < length xs → t (i + j) (get_or xs j 0) ≡ true
 passes_at t i [] e j l = absurd (omega arith)
 passes_at t i (x ∷ xs) e zero l =

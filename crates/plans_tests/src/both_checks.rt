@@ -1,6 +1,7 @@
 use crate::six_quotes::SixQuotes;
 use amounts::Money;
 use plans::{Bounds, Roster, Setting, count_of, total_of};
+use std::array;
 use std::test::Fail;
 
 const BOARD_Z: SixQuotes = SixQuotes {
@@ -35,13 +36,14 @@ fn coins(value: i64) -> Money {
     Money { value }
 }
 
-// The sheet with one entry at (1, 0), and the one with one at (1, 1).
-fn at_root(value: i64) -> [Money; 4] {
-    [coins(0), coins(0), coins(value), coins(0)]
-}
+// The places of the entries for weekend 1, of class 0 and of class 1.
+const ROOT: usize = 2;
 
-fn at_leaf(value: i64) -> [Money; 4] {
-    [coins(0), coins(0), coins(0), coins(value)]
+const LEAF: usize = 3;
+
+// The sheet with one entry.
+fn only(at: usize, value: i64) -> [Money; 4] {
+    array::from_fn(|place| coins(if place == at { value } else { 0 }))
 }
 
 #[test]
@@ -59,9 +61,9 @@ fn floors_of_toll_sheets(rt: HostRuntime) -> Result<(), Fail> {
     let roster = roster()?;
     let bounds = bounds();
     let board_z = over(&BOARD_Z, &roster, &bounds);
-    assert_eq!(rt; board_z.floor(&at_leaf(-4)).value, 8);
-    assert_eq!(rt; board_z.floor(&at_root(1)).value, 3);
-    assert_eq!(rt; board_z.floor(&at_root(-1)).value, 4);
+    assert_eq!(rt; board_z.floor(&only(LEAF, -4)).value, 8);
+    assert_eq!(rt; board_z.floor(&only(ROOT, 1)).value, 3);
+    assert_eq!(rt; board_z.floor(&only(ROOT, -1)).value, 4);
     assert_eq!(rt; board_z.floor(&[]).value, 4);
     Ok(())
 }
@@ -71,7 +73,7 @@ fn a_toll_sheet_shows_that_seven_is_too_low(rt: HostRuntime) -> Result<(), Fail>
     let roster = roster()?;
     let bounds = bounds();
     let board_z = over(&BOARD_Z, &roster, &bounds);
-    let sheet = at_leaf(-4);
+    let sheet = only(LEAF, -4);
     assert!(rt; board_z.toll_accepts(coins(7), &sheet));
     assert!(rt; !board_z.toll_accepts(coins(8), &sheet));
     Ok(())

@@ -5,10 +5,6 @@ use Rattle.plans.proofs.Climbing.{climbs_step, climbs_here, climbs_top}
 use Rattle.plans.proofs.class_tree.Roster.member.Goals as goal
 use Rattle.plans.proofs.class_tree.Roster.member.Goals.{then-loop-at_class-test+else-at_class-ne0, else-loop-at_class-test}
 
-pub loop-at_class-init : goal.loop-at_class-init
-loop-at_class-init c =
-    (c.class_of-at_class.ensures.known, ap (λ x. climbs (at c.args.self.now.parents) x x c.args.class) c.class_of-at_class.ensures.value)
-
 pub loop-at_class-preserved : goal.loop-at_class-preserved
 loop-at_class-preserved c =
     let sound = c.args.self.now.sound in
