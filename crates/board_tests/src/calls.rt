@@ -5,7 +5,7 @@ use sources::{QuoteTable, Span, SpanTariff, StrikeLayer};
 
 #[test]
 fn a_pin_strikes_the_others_and_reopening_lifts_one(rt: HostRuntime) {
-    let quotes = [coins(1), coins(2), coins(3), coins(4)];
+    let quotes = [Money::from(1), Money::from(2), Money::from(3), Money::from(4)];
     let words = [0b1011];
     let mut board = Board::open(QuoteTable::new(1, 4, &quotes, &words));
     assert_eq!(rt; told(board.pin(0, 1)), Ok(()));
@@ -34,7 +34,7 @@ fn a_new_roster_sets_the_bounds_back(rt: HostRuntime) {
 #[test]
 fn a_list_of_calls_is_played(rt: HostRuntime) {
     let mut board = opened();
-    let sheet = [coins(0)];
+    let sheet = [Money::from(0)];
     let calls = [
         Call::Roster {
             parents: &[0, 0],
@@ -65,7 +65,7 @@ fn a_list_of_calls_is_played(rt: HostRuntime) {
             book: 0,
             weekend: 0,
         },
-        Call::Limit { amount: coins(9) },
+        Call::Limit { amount: Money::from(9) },
         Call::HeadCheck { sheet: &[0] },
         Call::Pin {
             book: 2,
@@ -84,20 +84,20 @@ fn a_board_over_a_pile_of_ranked_quotes(rt: HostRuntime) {
         first: 0,
         last: 1,
         base: Ranked {
-            first: coins(1),
-            second: coins(9),
+            first: Money::from(1),
+            second: Money::from(9),
         },
         step: Ranked {
-            first: coins(0),
-            second: coins(-3),
+            first: Money::from(0),
+            second: Money::from(-3),
         },
     }];
     let tariff: SpanTariff<Ranked<Money, Money>> = SpanTariff::new(1, 2, &spans);
     let mut board = Board::open(StrikeLayer::over(tariff));
     assert_eq!(rt;
         told(board.limit(Ranked {
-            first: coins(1),
-            second: coins(5),
+            first: Money::from(1),
+            second: Money::from(5),
         })),
         Ok(())
     );
@@ -105,8 +105,8 @@ fn a_board_over_a_pile_of_ranked_quotes(rt: HostRuntime) {
     assert_eq!(rt; told(board.toll_check(&[zero, zero])), Ok(true));
     assert_eq!(rt;
         told(board.limit(Ranked {
-            first: coins(1),
-            second: coins(6),
+            first: Money::from(1),
+            second: Money::from(6),
         })),
         Ok(())
     );

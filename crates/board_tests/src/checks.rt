@@ -3,16 +3,16 @@ use crate::zed::*;
 #[test]
 fn a_toll_sheet_with_floor_eight(rt: HostRuntime) {
     let mut board = board_z(&rt, 7);
-    let sheet = [coins(0), coins(0), coins(0), coins(-4)];
+    let sheet = [Money::from(0), Money::from(0), Money::from(0), Money::from(-4)];
     assert_eq!(rt; told(board.toll_check(&sheet)), Ok(true));
-    assert_eq!(rt; told(board.limit(coins(8))), Ok(()));
+    assert_eq!(rt; told(board.limit(Money::from(8))), Ok(()));
     assert_eq!(rt; told(board.toll_check(&sheet)), Ok(false));
 }
 
 #[test]
 fn later_places_are_not_read(rt: HostRuntime) {
     let mut board = board_z(&rt, 7);
-    let sheet = [coins(0), coins(0), coins(0), coins(-4), coins(i64::MIN)];
+    let sheet = [Money::from(0), Money::from(0), Money::from(0), Money::from(-4), Money::from(i64::MIN)];
     assert_eq!(rt; told(board.toll_check(&sheet)), Ok(true));
     let heads = [0, 0, 0, 0, 100];
     assert_eq!(rt; told(board.head_check(&heads)), Ok(false));
@@ -22,15 +22,15 @@ fn later_places_are_not_read(rt: HostRuntime) {
 fn sheets_that_are_refused(rt: HostRuntime) {
     let mut board = board_z(&rt, 7);
     assert_eq!(rt;
-        told(board.toll_check(&[coins(i64::MIN), coins(0), coins(0)])),
+        told(board.toll_check(&[Money::from(i64::MIN), Money::from(0), Money::from(0)])),
         Err(8)
     );
     assert_eq!(rt;
-        told(board.toll_check(&[coins(0), coins(0), coins(0), coins(1_000_000_000_001)])),
+        told(board.toll_check(&[Money::from(0), Money::from(0), Money::from(0), Money::from(1_000_000_000_001)])),
         Err(7)
     );
     assert_eq!(rt;
-        told(board.toll_check(&[coins(0), coins(0), coins(0), coins(-1_000_000_000_000)])),
+        told(board.toll_check(&[Money::from(0), Money::from(0), Money::from(0), Money::from(-1_000_000_000_000)])),
         Ok(true)
     );
     assert_eq!(rt; told(board.head_check(&[2, 0, 0])), Err(8));
@@ -55,7 +55,7 @@ fn a_book_without_a_weekend_is_reason_enough(rt: HostRuntime) {
     assert_eq!(rt; told(board.strike(2, 1)), Ok(()));
     assert_eq!(rt; told(board.head_check(&[0, 0, 0, 0])), Ok(true));
     assert_eq!(rt;
-        told(board.toll_check(&[coins(0), coins(0), coins(0), coins(0)])),
+        told(board.toll_check(&[Money::from(0), Money::from(0), Money::from(0), Money::from(0)])),
         Ok(true)
     );
 }

@@ -68,8 +68,8 @@ fn lists_that_make_no_roster(rt: HostRuntime) {
 #[test]
 fn limits_that_weigh_too_much(rt: HostRuntime) {
     let mut board = opened();
-    assert_eq!(rt; told(board.limit(coins(1_000_000_000_000))), Ok(()));
-    assert_eq!(rt; told(board.limit(coins(1_000_000_000_001))), Err(7));
-    assert_eq!(rt; told(board.limit(coins(-1_000_000_000_000))), Ok(()));
-    assert_eq!(rt; told(board.limit(coins(i64::MIN))), Err(7));
+    assert_eq!(rt; told(board.limit(Money::from(1_000_000_000_000))), Ok(()));
+    assert_eq!(rt; told(board.limit(Money::from(1_000_000_000_001))), Err(7));
+    assert_eq!(rt; told(board.limit(Money::from(-1_000_000_000_000))), Ok(()));
+    assert_eq!(rt; told(board.limit(Money::from(i64::MIN))), Err(7));
 }

@@ -4,10 +4,6 @@ use board::{Board, Refusal};
 use sources::QuoteTable;
 use std::process::Abort;
 
-pub fn coins(value: i64) -> Money {
-    Money { value }
-}
-
 pub const QUOTES: [Money; 6] = [
     Money { value: 4 },
     Money { value: 1 },
@@ -37,6 +33,6 @@ pub fn board_z(rt: &impl Abort, limit: i64) -> Board<QuoteTable<'static, Money>>
     assert_eq!(rt; told(board.bounds(1, 0, 1, 2)), Ok(()));
     assert_eq!(rt; told(board.bounds(1, 1, 1, 1)), Ok(()));
     assert_eq!(rt; told(board.bounds(0, 1, 0, 3)), Ok(()));
-    assert_eq!(rt; told(board.limit(coins(limit))), Ok(()));
+    assert_eq!(rt; told(board.limit(Money::from(limit))), Ok(()));
     board
 }

@@ -15,9 +15,7 @@ fn coin(sheet: &[i8], place: usize) -> Money
     ensures value { result ≡ money (slice_index_or sheet.now place (pos 0)) }
     ensures light { unsigned_abs result.value ≤ 128 }
 {
-    Money {
-        value: i64::from(sheet.get(place).copied().unwrap_or(0)),
-    }
+    Money::from(i64::from(sheet.get(place).copied().unwrap_or(0)))
 }
 
 // The first 128 entries of a head sheet, in coins: as many as are ever read.

@@ -32,10 +32,6 @@ fn over<'a>(
     }
 }
 
-fn coins(value: i64) -> Money {
-    Money { value }
-}
-
 // The places of the entries for weekend 1, of class 0 and of class 1.
 const ROOT: usize = 2;
 
@@ -43,7 +39,7 @@ const LEAF: usize = 3;
 
 // The sheet with one entry.
 fn only(at: usize, value: i64) -> [Money; 4] {
-    array::from_fn(|place| coins(if place == at { value } else { 0 }))
+    array::from_fn(|place| Money::from(if place == at { value } else { 0 }))
 }
 
 #[test]
@@ -74,8 +70,8 @@ fn a_toll_sheet_shows_that_seven_is_too_low(rt: HostRuntime) -> Result<(), Fail>
     let bounds = bounds();
     let board_z = over(&BOARD_Z, &roster, &bounds);
     let sheet = only(LEAF, -4);
-    assert!(rt; board_z.toll_accepts(coins(7), &sheet));
-    assert!(rt; !board_z.toll_accepts(coins(8), &sheet));
+    assert!(rt; board_z.toll_accepts(Money::from(7), &sheet));
+    assert!(rt; !board_z.toll_accepts(Money::from(8), &sheet));
     Ok(())
 }
 
@@ -101,6 +97,6 @@ fn a_book_with_no_open_weekend(rt: HostRuntime) -> Result<(), Fail> {
     };
     let setting = over(&source, &roster, &bounds);
     assert!(rt; setting.head_accepts(&[0, 0, 0, 0]));
-    assert!(rt; setting.toll_accepts(coins(1000), &[]));
+    assert!(rt; setting.toll_accepts(Money::from(1000), &[]));
     Ok(())
 }

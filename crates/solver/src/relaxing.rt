@@ -26,7 +26,7 @@ pub(crate) fn soft_quote<S: Source>(
 {
     match source.quote(book, weekend) {
         Some(quote) => Ranked {
-            first: Money { value: 0 },
+            first: Money::zero(),
             second: quote,
         },
         None => Ranked::<Money, S::Quote>::zero(),
