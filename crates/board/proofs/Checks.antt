@@ -7,6 +7,7 @@ use Rattle.std.specs.List.{list_all}
 use Rattle.amounts.specs.Kind.{Kind, Lawful}
 use Rattle.amounts.specs.Sums.{item}
 use Rattle.sources.specs.declared.meaning.Source.{Ghosts}
+use Rattle.sources.specs.Meaning.{InRange}
 use Rattle.sources.specs.declared.strike_layer.StrikeLayer.{StrikeLayer}
 use Rattle.plans.specs.declared.bound_table.Bounds.{Bounds}
 use Rattle.plans.specs.declared.class_tree.Roster.{Roster}
@@ -45,12 +46,12 @@ pub all_heads : (n : ℕ) (sheet entries : List ℤ) → n ≤ length sheet → 
 all_heads n sheet entries = all_below (λ x. leb (unsigned_abs x) 1) (pos 0) sheet n entries
 
 -- what a board puts is sound, where each quote is light
-pub board_sound : {S V : Type 0} (source : Ghosts S V) (K : Kind V) (b : Desk S V) (layer : StrikeLayer S) (roster : Roster) (bounds : Bounds) (limit : V)
+pub board_sound : {S V : Type 0} (source : Ghosts S V) → InRange source.count source.weeks source.table → (K : Kind V) (b : Desk S V) (layer : StrikeLayer S) (roster : Roster) (bounds : Bounds) (limit : V)
     → desk layer roster bounds limit ≡ b → K.weight limit ≤ 1000000000000
     → ((k w : ℕ) → k < (posed source b).books → w < (posed source b).weekends → IfSome ((posed source b).quote k w) (λ x. K.weight x ≤ 1000000000)) → Sound K (posed source b)
-board_sound source K b layer roster bounds limit is modest =
+board_sound source ranges K b layer roster bounds limit is modest =
     subst (λ d. ((k w : ℕ) → k < (posed source d).books → w < (posed source d).weekends → IfSome ((posed source d).quote k w) (λ x. K.weight x ≤ 1000000000)) → Sound K (posed source d)) is
-    (λ quotes. posed_sound K (under_strikes source (desk layer roster bounds limit)) roster bounds limit (source.ranges.few_books layer.below) (source.ranges.few_weeks layer.below) quotes modest)
+    (λ quotes. posed_sound K (under_strikes source (desk layer roster bounds limit)) roster bounds limit (ranges.few_books layer.below) (ranges.few_weeks layer.below) quotes modest)
 
 -- is the answer a yes?
 abbrev pub yes : Result Bool Refusal → Bool

@@ -63,7 +63,7 @@ impl<'a, X: Amount> Labels<'a, X> {
     {
         clear_all(&mut *sheet);
         Labels {
-            heads: [Money::zero(); 258],
+            heads: [Money { value: 0 }; 258],
             sheet,
             marks: [None; 129],
         }
