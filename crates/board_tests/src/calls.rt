@@ -5,7 +5,12 @@ use sources::{QuoteTable, Span, SpanTariff, StrikeLayer};
 
 #[test]
 fn a_pin_strikes_the_others_and_reopening_lifts_one(rt: HostRuntime) {
-    let quotes = [Money::from(1), Money::from(2), Money::from(3), Money::from(4)];
+    let quotes = [
+        Money::from(1),
+        Money::from(2),
+        Money::from(3),
+        Money::from(4),
+    ];
     let words = [0b1011];
     let mut board = Board::open(QuoteTable::new(1, 4, &quotes, &words));
     assert_eq!(rt; told(board.pin(0, 1)), Ok(()));
@@ -65,7 +70,9 @@ fn a_list_of_calls_is_played(rt: HostRuntime) {
             book: 0,
             weekend: 0,
         },
-        Call::Limit { amount: Money::from(9) },
+        Call::Limit {
+            amount: Money::from(9),
+        },
         Call::HeadCheck { sheet: &[0] },
         Call::Pin {
             book: 2,

@@ -1,9 +1,15 @@
 use crate::zed::*;
+use amounts::Money;
 
 #[test]
 fn a_toll_sheet_with_floor_eight(rt: HostRuntime) {
     let mut board = board_z(&rt, 7);
-    let sheet = [Money::from(0), Money::from(0), Money::from(0), Money::from(-4)];
+    let sheet = [
+        Money::from(0),
+        Money::from(0),
+        Money::from(0),
+        Money::from(-4),
+    ];
     assert_eq!(rt; told(board.toll_check(&sheet)), Ok(true));
     assert_eq!(rt; told(board.limit(Money::from(8))), Ok(()));
     assert_eq!(rt; told(board.toll_check(&sheet)), Ok(false));
@@ -12,7 +18,13 @@ fn a_toll_sheet_with_floor_eight(rt: HostRuntime) {
 #[test]
 fn later_places_are_not_read(rt: HostRuntime) {
     let mut board = board_z(&rt, 7);
-    let sheet = [Money::from(0), Money::from(0), Money::from(0), Money::from(-4), Money::from(i64::MIN)];
+    let sheet = [
+        Money::from(0),
+        Money::from(0),
+        Money::from(0),
+        Money::from(-4),
+        Money::from(i64::MIN),
+    ];
     assert_eq!(rt; told(board.toll_check(&sheet)), Ok(true));
     let heads = [0, 0, 0, 0, 100];
     assert_eq!(rt; told(board.head_check(&heads)), Ok(false));
@@ -26,11 +38,21 @@ fn sheets_that_are_refused(rt: HostRuntime) {
         Err(8)
     );
     assert_eq!(rt;
-        told(board.toll_check(&[Money::from(0), Money::from(0), Money::from(0), Money::from(1_000_000_000_001)])),
+        told(board.toll_check(&[
+            Money::from(0),
+            Money::from(0),
+            Money::from(0),
+            Money::from(1_000_000_000_001)
+        ])),
         Err(7)
     );
     assert_eq!(rt;
-        told(board.toll_check(&[Money::from(0), Money::from(0), Money::from(0), Money::from(-1_000_000_000_000)])),
+        told(board.toll_check(&[
+            Money::from(0),
+            Money::from(0),
+            Money::from(0),
+            Money::from(-1_000_000_000_000)
+        ])),
         Ok(true)
     );
     assert_eq!(rt; told(board.head_check(&[2, 0, 0])), Err(8));
@@ -55,7 +77,12 @@ fn a_book_without_a_weekend_is_reason_enough(rt: HostRuntime) {
     assert_eq!(rt; told(board.strike(2, 1)), Ok(()));
     assert_eq!(rt; told(board.head_check(&[0, 0, 0, 0])), Ok(true));
     assert_eq!(rt;
-        told(board.toll_check(&[Money::from(0), Money::from(0), Money::from(0), Money::from(0)])),
+        told(board.toll_check(&[
+            Money::from(0),
+            Money::from(0),
+            Money::from(0),
+            Money::from(0)
+        ])),
         Ok(true)
     );
 }

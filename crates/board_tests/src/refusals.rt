@@ -1,4 +1,5 @@
 use crate::zed::*;
+use amounts::Money;
 use board::Board;
 use sources::QuoteTable;
 
