@@ -16,6 +16,7 @@ pub fn smaller<X: Amount>(x: X, y: X) -> X
 }
 
 // The second where the two are equal.
+// Stays beside `smaller`: of equal amounts each answers the other one, and a flag for which of them would say less at every call.
 pub fn larger<X: Amount>(x: X, y: X) -> X
     ensures { result ≡ the_larger X.Amount.kind x y }
 {

@@ -72,6 +72,7 @@ impl<S: Source> Board<S> {
         Ok(self.setting().toll_accepts(self.limit, sheet))
     }
 
+    // Stays beside the toll check: entries, their test, the refusal and the question all differ, so a trait of sheets would have two members for each line saved.
     // The same of a head sheet, with entries -1, 0 or 1, every quote counted 0, and limit 0: it shows that there is no plan at all.
     #[tactic(auto, using(std::proofs::lemmas::Bool::Decides::nat_tests, crate::proofs::Checks::all_heads), unfolding(crate::specs::Questions::head_check))]
     pub fn head_check(&self, sheet: &[i8]) -> Result<bool, Refusal>

@@ -41,6 +41,7 @@ impl Bounds {
         }
     }
 
+    // Stays a weekend and a class apart: any two numbers may be asked for, here and in a call to a board.
     // The least number; 0 where there is no such weekend or class.
     pub fn lower(&self, weekend: usize, class: usize) -> usize
         ensures { result ≡ (bound_at self.now.table weekend class).lower }

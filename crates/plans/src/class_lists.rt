@@ -42,6 +42,7 @@ fn row_of<const N: usize>(numbers: &[usize]) -> [u8; N]
 }
 
 impl Roster {
+    // Stays two lists and a number: so they come in a call to a board, and the roster is the struct that is made of them.
     // Entry c of `parents` is the parent of class c, and entry b of `classes` the class of book b; of the classes only the first `books` are read.
     // A number of books over 120 is taken as 120.
     pub fn from_lists(

@@ -47,7 +47,6 @@ impl<'a, S: Source> Residual<'a, S> {
     // Gives the nodes of a weekend their labels. A parent has a smaller number than its classes, so that its label is there before theirs.
     fn label_weekend(&self, labels: &mut Labels<'_, S::Quote>, weekend: usize)
         requires weekend { weekend < S.Source.weeks self.now.setting.source.now }
-        requires sound { Sound S.Quote.Amount.kind (posed_by S.Source S.Quote.Amount.kind self.now.setting) }
         requires flat { Flat S.Quote.Amount.kind (posed_by S.Source S.Quote.Amount.kind self.now.setting) (at self.now.state.now.counts) (old_of S.Quote.Amount.kind (memory_of labels.old)) (the_node weekend 0) }
         ensures { Flat S.Quote.Amount.kind (posed_by S.Source S.Quote.Amount.kind self.now.setting) (at self.now.state.now.counts) (old_of S.Quote.Amount.kind (memory_of labels.new)) (the_node (weekend + 1) 0) }
     {
@@ -59,7 +58,6 @@ impl<'a, S: Source> Residual<'a, S> {
     // Gives every node its label, where all labels are zero at first and each word has only the weekend of its book.
     pub(crate) fn first_labels(&self, labels: &mut Labels<'_, S::Quote>)
         requires blank { (v : ℕ) → old_of S.Quote.Amount.kind (memory_of labels.old) v ≡ (soft_kind S.Quote.Amount.kind).none }
-        requires sound { Sound S.Quote.Amount.kind (posed_by S.Source S.Quote.Amount.kind self.now.setting) }
         requires begun { Begun (meaning S.Source self.now.setting.source.now) self.now.setting.roster.now self.now.state.now }
         ensures { ShownIn S.Quote.Amount.kind (posed_by S.Source S.Quote.Amount.kind self.now.setting) self.now.state.now (old_of S.Quote.Amount.kind (memory_of labels.new)) }
     {

@@ -6,6 +6,7 @@ ghost use Rattle.solver.specs.Residual.{above as the_above, node as the_node};
 use plans::Roster;
 
 // How many nodes there are: a class has one at each weekend, and there is the sink.
+// Stays a number wherever a node is passed: nodes are places of the table and are gone through from 0 on, so a struct of one would be made and taken apart in each function.
 pub(crate) const NODES: usize = 129;
 
 // The node above all.

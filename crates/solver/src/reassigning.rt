@@ -15,6 +15,7 @@ use amounts::Amount;
 use sources::Source;
 
 impl<'a, S: Source> Graph<'a, S> {
+    // Stays a clause, and no field of a struct: that labels show a state least holds between the steps, and not within one.
     // Lets a book go to the weekends of a word. The labels show that the assignment is least among those inside the words, before and after.
     pub(crate) fn reassign(
         &self,
@@ -25,7 +26,6 @@ impl<'a, S: Source> Graph<'a, S> {
     )
         requires book { book < S.Source.count self.now.setting.source.now }
         requires some { (x : ℕ) × (x < S.Source.weeks self.now.setting.source.now) × (bit_at into x ≡ true) }
-        requires sound { Sound S.Quote.Amount.kind (posed_by S.Source S.Quote.Amount.kind self.now.setting) }
         requires shown { ShownIn S.Quote.Amount.kind (posed_by S.Source S.Quote.Amount.kind self.now.setting) state.old (old_of S.Quote.Amount.kind (memory_of labels.old)) }
         ensures shown { ShownIn S.Quote.Amount.kind (posed_by S.Source S.Quote.Amount.kind self.now.setting) state.new (old_of S.Quote.Amount.kind (memory_of labels.new)) }
         ensures words { words_of state.new ≡ slice_set (words_of state.old) book into }
@@ -47,7 +47,6 @@ impl<'a, S: Source> Graph<'a, S> {
 impl<'a, S: Source> Residual<'a, S> {
     // Finds labels anew, by a search from all nodes: they are as valid as before, light, and at most zero.
     pub(crate) fn refresh(&self, labels: &mut Labels<'_, S::Quote>)
-        requires sound { Sound S.Quote.Amount.kind (posed_by S.Source S.Quote.Amount.kind self.now.setting) }
         requires shown { ShownIn S.Quote.Amount.kind (posed_by S.Source S.Quote.Amount.kind self.now.setting) self.now.state.now (old_of S.Quote.Amount.kind (memory_of labels.old)) }
         ensures shown { ShownIn S.Quote.Amount.kind (posed_by S.Source S.Quote.Amount.kind self.now.setting) self.now.state.now (old_of S.Quote.Amount.kind (memory_of labels.new)) }
         ensures low { (v : ℕ) → v < 129 → AtMost (soft_kind S.Quote.Amount.kind) (old_of S.Quote.Amount.kind (memory_of labels.new) v) (soft_kind S.Quote.Amount.kind).none }

@@ -1,5 +1,5 @@
 // A least assignment, from nothing.
-ghost use Rattle.std.specs.Prelude.{◌≡◌, ℕ, ◌<◌, ◌≤◌, true, length, MatchOption};
+ghost use Rattle.std.specs.Prelude.{◌≡◌, is_some, ℕ, ◌<◌, ◌≤◌, true, length, MatchOption};
 ghost use Rattle.amounts.specs.Sums.{item};
 ghost use Rattle.plans.specs.Posed.{put};
 ghost use Rattle.plans.specs.Theorems.{Sound};
@@ -24,7 +24,6 @@ const PLACES: usize = 1024;
 impl<'a, S: Source> Graph<'a, S> {
     // Lets each book go to the weekends of its word, one book after another.
     fn widen_all(&self, state: &mut State, labels: &mut Labels<'_, S::Quote>, words: &[u16; 120])
-        requires sound { Sound S.Quote.Amount.kind (posed_by S.Source S.Quote.Amount.kind self.now.setting) }
         requires some { (b : ℕ) → b < S.Source.count self.now.setting.source.now → (x : ℕ) × (x < S.Source.weeks self.now.setting.source.now) × (word_at words.now b x ≡ true) }
         requires shown { ShownIn S.Quote.Amount.kind (posed_by S.Source S.Quote.Amount.kind self.now.setting) state.old (old_of S.Quote.Amount.kind (memory_of labels.old)) }
         ensures shown { ShownIn S.Quote.Amount.kind (posed_by S.Source S.Quote.Amount.kind self.now.setting) state.new (old_of S.Quote.Amount.kind (memory_of labels.new)) }
@@ -35,20 +34,19 @@ impl<'a, S: Source> Graph<'a, S> {
         }
     }
 
-    // A least assignment, and labels that show it; none where a book has no open weekend.
-    fn least_state(&self, labels: &mut Labels<'_, S::Quote>) -> Option<State>
-        requires { (v : ℕ) → old_of S.Quote.Amount.kind (memory_of labels.old) v ≡ (soft_kind S.Quote.Amount.kind).none }
-        ensures found { MatchOption result (stranded (S.Source.count self.now.setting.source.now) (S.Source.weeks self.now.setting.source.now) (S.Source.table self.now.setting.source.now) ≡ true) (λ s. SolvedIn S.Quote.Amount.kind (posed_by S.Source S.Quote.Amount.kind self.now.setting) s (old_of S.Quote.Amount.kind (memory_of labels.new))) }
-        ensures sound { Sound S.Quote.Amount.kind (posed_by S.Source S.Quote.Amount.kind self.now.setting) }
+    // A least assignment, and labels that show it; none where a book has no open weekend. `words` says where the books are open.
+    fn least_state(&self, words: &[u16; 120], labels: &mut Labels<'_, S::Quote>) -> Option<State>
+        requires bits { (b w : ℕ) → word_at words.now b w ≡ is_some (S.Source.table self.now.setting.source.now b w) }
+        requires blank { (v : ℕ) → old_of S.Quote.Amount.kind (memory_of labels.old) v ≡ (soft_kind S.Quote.Amount.kind).none }
+        ensures { MatchOption result (stranded (S.Source.count self.now.setting.source.now) (S.Source.weeks self.now.setting.source.now) (S.Source.table self.now.setting.source.now) ≡ true) (λ s. SolvedIn S.Quote.Amount.kind (posed_by S.Source S.Quote.Amount.kind self.now.setting) s (old_of S.Quote.Amount.kind (memory_of labels.new))) }
     {
-        let words = open_words(self.setting.source);
-        let mut state = self.first_state(&words)?;
+        let mut state = self.first_state(words)?;
         let first = Residual {
             setting: self.setting,
             state: &state,
         };
         first.first_labels(labels);
-        self.widen_all(&mut state, labels, &words);
+        self.widen_all(&mut state, labels, words);
         let last = Residual {
             setting: self.setting,
             state: &state,
@@ -72,8 +70,9 @@ pub fn solve<'a, S: Source>(
     if work.len() < PLACES {
         return Err(Unsolved::Short);
     }
+    let words = open_words(setting.source);
     let graph = Graph { setting: *setting };
-    let found = graph.least_state(&mut Labels::over(&mut *work));
+    let found = graph.least_state(&words, &mut Labels::over(&mut *work));
     clear_all(work);
     let state = found.ok_or(Unsolved::Stranded)?;
     Ok(state.weekends())

@@ -16,6 +16,7 @@ use sources::{Source, has_weekend};
 
 impl<'a, S: Source> Graph<'a, S> {
     // Lets a search start from the book's class at the weekends of the word `into`: there the quotes are the first labels.
+    // Stays a book and a word beside it: no fact ties the two but that one weekend of the word is the setting's, which `reassign` alone asks.
     pub(crate) fn start_at(&self, labels: &mut Labels<'_, S::Quote>, book: usize, into: u16)
         requires { book < S.Source.count self.now.setting.source.now }
         ensures { Started S.Quote.Amount.kind (posed_by S.Source S.Quote.Amount.kind self.now.setting) (memory_of labels.old) (memory_of labels.new) book into }

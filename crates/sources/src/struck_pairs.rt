@@ -36,6 +36,7 @@ impl StruckPairs {
         }
     }
 
+    // Stays beside `put`: the two do opposite things to a word, and a flag for which of them would say less at every call.
     // Lifts the strike of a pair; one that has no place here changes nothing.
     pub fn lift(&mut self, book: usize, weekend: usize)
         ensures after { self.new.words ≡ without_pair self.old.words book weekend }
