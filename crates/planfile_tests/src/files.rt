@@ -50,11 +50,11 @@ pub(crate) fn limit(money: i64) -> [u8; 16] {
 }
 
 // The record with one byte changed.
-pub(crate) fn with(row: [u8; 16], byte: usize, value: u8) -> [u8; 16]
-    requires { byte < 16 }
-{
+pub(crate) fn with(row: [u8; 16], byte: usize, value: u8) -> [u8; 16] {
     let mut row = row;
-    row[byte] = value;
+    if byte < 16 {
+        row[byte] = value;
+    }
     row
 }
 
