@@ -16,6 +16,7 @@ use crate::nodes::Spot;
 use amounts::{Amount, Money, Ranked};
 use sources::Source;
 
+// Stays beside rise and fall: each of the three compares otherwise.
 // By how much the label of a node is below that of the node above, where at least `lower` and at most `upper` members are wanted.
 fn level<X: Amount>(lower: usize, upper: usize, members: usize) -> Ranked<Money, X>
     ensures { result ≡ the_level (soft_kind X.Amount.kind) (the_violation X.Amount.kind) lower upper members }

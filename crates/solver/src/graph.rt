@@ -1,10 +1,16 @@
 // What a search is made over.
+ghost use Rattle.std.specs.Prelude.{◌≡◌};
 ghost use Rattle.std.proofs.Props.{props};
 ghost use Rattle.plans.specs.Theorems.{Sound};
+ghost use Rattle.plans.specs.Places.{at};
+ghost use Rattle.solver.specs.Residual.{node as the_node};
+ghost use Rattle.solver.specs.Flows.{soft_charges};
 ghost use Rattle.solver.specs.Held.{posed_by};
 
+use crate::network::rise;
+use crate::nodes::Spot;
 use crate::state::State;
-use amounts::Amount;
+use amounts::{Amount, Money, Ranked};
 use plans::Setting;
 use sources::Source;
 
@@ -22,4 +28,16 @@ pub(crate) struct Residual<'a, S: Source> {
     pub(crate) setting: Setting<'a, S>,
     pub(crate) state: &'a State,
     ghost sound: { Sound S.Quote.Amount.kind (posed_by S.Source S.Quote.Amount.kind setting) } by { Prim.hlevel props },
+}
+
+impl<'a, S: Source> Residual<'a, S> {
+    // The rise at a spot.
+    pub(crate) fn rise_at(&self, spot: Spot) -> Ranked<Money, S::Quote>
+        ensures { result ≡ (soft_charges S.Quote.Amount.kind (posed_by S.Source S.Quote.Amount.kind self.now.setting)).rise spot.weekend spot.class (at self.now.state.now.counts (the_node spot.weekend spot.class)) }
+    {
+        let Spot { weekend, class } = spot;
+        let lower = self.setting.bounds.lower(weekend, class);
+        let upper = self.setting.bounds.upper(weekend, class);
+        rise::<S::Quote>(lower, upper, self.state.counts[spot.node()])
+    }
 }

@@ -7,7 +7,7 @@ use crate::nodes::{NEW, NODES};
 use amounts::{Amount, Money, Ranked};
 
 // What stands at a place of a lent sheet.
-// Stays: a lent sheet is passed on for writing, also where it is only read.
+// Stays: a rule of the project: the table is lent for writing to each function, also where it is only read.
 fn read_at<X: Amount>(sheet: &mut [X], place: usize) -> X
     requires { place < length sheet.old }
     ensures read { result ≡ item X.Amount.kind sheet.old place }
@@ -42,7 +42,7 @@ fn clear_new<X: Amount>(sheet: &mut [X])
 
 // A label is an amount behind a number of violations. The first 129 places have the labels that are valid, one for each node, and the next 129 those that a
 // search is finding. Each node that has a label in the search has a mark.
-// Stays: violations and amounts are in two lists, since the lent sheet has room for amounts alone.
+// Stays: violations, amounts and marks are in three lists, since the lent sheet has room for amounts alone.
 #[derive(Drop)]
 pub(crate) struct Labels<'a, X> {
     pub(crate) heads: [Money; 258],

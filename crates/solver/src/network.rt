@@ -14,7 +14,7 @@ pub fn violation<X: Amount>() -> Ranked<Money, X>
     }
 }
 
-// Stays two bounds and a number: each of the three may be any number, and the callers read the bounds one by one.
+// Stays two bounds and a number: no fact ties the three, and a struct of them would be made for each call.
 // What it costs to go from so many members to one more, where at least `lower` and at most `upper` are wanted.
 #[tactic(auto, unfolding(crate::specs::Soft::rise))]
 pub fn rise<X: Amount>(lower: usize, upper: usize, members: usize) -> Ranked<Money, X>

@@ -13,7 +13,7 @@ pub(crate) const NODES: usize = 129;
 pub(crate) const SINK: usize = 128;
 
 // The first place of the labels that a search is finding.
-pub(crate) const NEW: usize = 129;
+pub(crate) const NEW: usize = NODES;
 
 // A class at a weekend.
 #[derive(Clone, Copy)]

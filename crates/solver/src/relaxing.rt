@@ -11,7 +11,7 @@ ghost use Rattle.solver.specs.States.{sent_of, words_of};
 use crate::arcs::Arc;
 use crate::graph::Residual;
 use crate::labels::Labels;
-use crate::network::{fall, rise};
+use crate::network::fall;
 use crate::nodes::{NEW, SINK, Spot};
 use amounts::{Amount, Money, Ranked};
 use sources::{Source, has_weekend};
@@ -24,12 +24,9 @@ pub(crate) fn soft_quote<S: Source>(
 ) -> Ranked<Money, S::Quote>
     ensures { result ≡ or_none (soft_kind S.Quote.Amount.kind) (behind (S.Source.table source.now book weekend)) }
 {
-    match source.quote(book, weekend) {
-        Some(quote) => Ranked {
-            first: Money::zero(),
-            second: quote,
-        },
-        None => Ranked::<Money, S::Quote>::zero(),
+    Ranked {
+        first: Money::zero(),
+        second: source.quote(book, weekend).unwrap_or(S::Quote::zero()),
     }
 }
 
@@ -39,11 +36,7 @@ impl<'a, S: Source> Residual<'a, S> {
         requires { Stands (posed_by S.Source S.Quote.Amount.kind self.now.setting) spot }
         ensures { Relaxes S.Quote.Amount.kind (posed_by S.Source S.Quote.Amount.kind self.now.setting) self.now.state.now (memory_of labels.old) (memory_of labels.new) (the_node spot.weekend spot.class) 0 1 }
     {
-        let node = spot.node();
-        let lower = self.setting.bounds.lower(spot.weekend, spot.class);
-        let upper = self.setting.bounds.upper(spot.weekend, spot.class);
-        let cost = rise::<S::Quote>(lower, upper, self.state.counts[node]);
-        let label = labels.read(NEW + node).sum(cost);
+        let label = labels.read(NEW + spot.node()).sum(self.rise_at(spot));
         let head = spot.above(self.setting.roster);
         labels.offer(head, label, Arc::Rise(spot.weekend, spot.class));
     }

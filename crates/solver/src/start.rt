@@ -13,22 +13,14 @@ ghost use Rattle.solver.specs.States.{sent_of, words_of};
 use crate::choices::{Choice, cheaper};
 use crate::counts::enter;
 use crate::graph::{Graph, Residual};
-use crate::network::rise;
 use crate::nodes::Spot;
+use crate::relaxing::soft_quote;
 use crate::state::State;
 use amounts::{Amount, Money, Ranked};
 use plans::Roster;
 use sources::{Source, has_weekend};
 
 impl<'a, S: Source> Residual<'a, S> {
-    // The rise at a spot.
-    fn rise_at(&self, spot: Spot) -> Ranked<Money, S::Quote> {
-        let Spot { weekend, class } = spot;
-        let lower = self.setting.bounds.lower(weekend, class);
-        let upper = self.setting.bounds.upper(weekend, class);
-        rise::<S::Quote>(lower, upper, self.state.counts[spot.node()])
-    }
-
     // What it costs to send one more book to a weekend: the rises first, and then the quote.
     fn price_weekend(&self, book: usize, weekend: usize) -> Choice<Ranked<Money, S::Quote>>
         requires { weekend < 16 }
@@ -39,13 +31,10 @@ impl<'a, S: Source> Residual<'a, S> {
             requires near { weekend < 16 }
             requires few { class < 8 }
         { self.rise_at(Spot { weekend, class }) };
-        let mut cost = roster.sum_up(roster.class_of(book), &rise_of);
-        if let Some(quote) = self.setting.source.quote(book, weekend) {
-            cost.second = cost.second.sum(quote);
-        }
+        let rises = roster.sum_up(roster.class_of(book), &rise_of);
         Choice {
             place: weekend,
-            cost,
+            cost: rises.sum(soft_quote(self.setting.source, book, weekend)),
         }
     }
 

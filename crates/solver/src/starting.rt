@@ -72,7 +72,7 @@ impl<'a, S: Source> Residual<'a, S> {
             return false;
         }
         let leaving = soft_quote(self.setting.source, book, from).opposite();
-        // Stays: a label is read through the table, which is lent for writing; a closure that changes what it captures has no proof.
+        // Stays: the table is lent for writing also where it is read (see labels), so a closure over it would change what it captures, and of such a chain nothing is proved.
         for weekend in 0..self.setting.source.weekends() {
             if has_weekend(into, weekend) && !self.stays_by(labels, book, weekend, leaving) {
                 return false;

@@ -11,7 +11,7 @@ pub(crate) struct Sent {
     pub(crate) word: u16,
 }
 
-// Stays a clause where a book is named: that it has a place here is asked of a number, and every caller has it of the source.
+// Stays a clause where a book or a weekend is named: that it has a place here is asked of a number, and every caller has it of the source.
 // Place b of `books` is book b, and place weekend * 8 + class of `counts` is how many members of the class go to the weekend.
 #[derive(Clone, Copy)]
 pub(crate) struct State {
