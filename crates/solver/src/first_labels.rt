@@ -2,7 +2,6 @@
 ghost use Rattle.std.specs.Prelude.{◌≡◌, ℕ, ◌+◌, ◌<◌};
 ghost use Rattle.plans.specs.Places.{at};
 ghost use Rattle.plans.specs.Posed.{meaning};
-ghost use Rattle.plans.specs.Theorems.{Sound};
 ghost use Rattle.solver.specs.Soft.{soft_kind, violation as the_violation};
 ghost use Rattle.solver.specs.Residual.{node as the_node};
 ghost use Rattle.solver.specs.Held.{memory_of, old_of, posed_by, ShownIn, Stands};

@@ -1,6 +1,5 @@
 // The pairs that a source has open, one word for each book.
 ghost use Rattle.std.specs.Prelude.{◌≡◌, ℕ, ◌^◌, ◌<◌, ◌≤◌, is_some, IfSome};
-ghost use Rattle.sources.specs.Tables.{bit_at};
 ghost use Rattle.solver.specs.Held.{word_at, WordOf};
 
 use amounts::Amount;

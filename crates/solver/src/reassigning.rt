@@ -2,7 +2,6 @@
 ghost use Rattle.std.specs.Prelude.{◌≡◌, ℕ, ◌<◌, true, slice_set};
 ghost use Rattle.amounts.specs.Kind.{AtMost};
 ghost use Rattle.sources.specs.Tables.{bit_at};
-ghost use Rattle.plans.specs.Theorems.{Sound};
 ghost use Rattle.solver.specs.Soft.{soft_kind};
 ghost use Rattle.solver.specs.Held.{memory_of, old_of, posed_by, ShownIn};
 ghost use Rattle.solver.specs.States.{words_of};

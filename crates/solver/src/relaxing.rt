@@ -3,8 +3,8 @@ ghost use Rattle.std.specs.Prelude.{◌≡◌, ◌+◌, ◌*◌, ◌<◌, true, 
 ghost use Rattle.amounts.specs.Least.{or_none};
 ghost use Rattle.plans.specs.Places.{at};
 ghost use Rattle.sources.specs.Tables.{bit_at};
-ghost use Rattle.solver.specs.Soft.{soft_kind, behind};
-ghost use Rattle.solver.specs.Residual.{node as the_node, above as the_above};
+ghost use Rattle.solver.specs.Soft.{soft_kind, behind, softened};
+ghost use Rattle.solver.specs.Residual.{node as the_node, above as the_above, moving};
 ghost use Rattle.solver.specs.Held.{memory_of, posed_by, Relaxes, Stands};
 ghost use Rattle.solver.specs.States.{sent_of, words_of};
 
@@ -77,6 +77,19 @@ impl<'a, S: Source> Residual<'a, S> {
         }
     }
 
+    // The cost of the move of a book to another weekend; `leaving` is the opposite of its quote where it is.
+    pub(crate) fn move_cost(
+        &self,
+        book: usize,
+        weekend: usize,
+        leaving: Ranked<Money, S::Quote>,
+    ) -> Ranked<Money, S::Quote>
+        requires { leaving ≡ (soft_kind S.Quote.Amount.kind).minus (or_none (soft_kind S.Quote.Amount.kind) (behind (S.Source.table self.now.setting.source.now book (at (sent_of self.now.state.now) book)))) }
+        ensures { result ≡ moving (soft_kind S.Quote.Amount.kind) (softened (posed_by S.Source S.Quote.Amount.kind self.now.setting)) book (at (sent_of self.now.state.now) book) weekend }
+    {
+        soft_quote(self.setting.source, book, weekend).sum(leaving)
+    }
+
     // The move of a book to another weekend; `leaving` is the opposite of its quote where it is.
     fn take_move(
         &self,
@@ -94,7 +107,7 @@ impl<'a, S: Source> Residual<'a, S> {
     {
         let from = self.state.spot_of(self.setting.roster, book);
         let class = from.class;
-        let cost = soft_quote(self.setting.source, book, weekend).sum(leaving);
+        let cost = self.move_cost(book, weekend, leaving);
         let label = labels.read(NEW + from.node()).sum(cost);
         let to = Spot { weekend, class };
         labels.offer(to.node(), label, Arc::Move(book, weekend));

@@ -2,7 +2,6 @@
 ghost use Rattle.std.specs.Prelude.{◌≡◌, is_some, ℕ, ◌<◌, ◌≤◌, true, length, MatchOption};
 ghost use Rattle.amounts.specs.Sums.{item};
 ghost use Rattle.plans.specs.Posed.{put};
-ghost use Rattle.plans.specs.Theorems.{Sound};
 ghost use Rattle.plans.specs.Sheets.{stranded};
 ghost use Rattle.solver.specs.Soft.{soft_kind};
 ghost use Rattle.solver.specs.Held.{memory_of, old_of, word_at, posed_by, ShownIn};

@@ -55,7 +55,7 @@ impl<'a, S: Source> Residual<'a, S> {
         let from = self.state.spot_of(self.setting.roster, book);
         let class = from.class;
         let to = Spot { weekend, class };
-        let cost = soft_quote(self.setting.source, book, weekend).sum(leaving);
+        let cost = self.move_cost(book, weekend, leaving);
         let most = labels.read(from.node()).sum(cost);
         labels.read(to.node()).compare(most).is_le()
     }

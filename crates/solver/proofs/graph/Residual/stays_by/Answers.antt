@@ -1,9 +1,9 @@
 use Rattle.std.proofs.Common.{◌≡◌, ◌<◌, refl, ap, ◌∙◌, ap₂, arith}
 use Rattle.std.specs.Ordering.{is_le}
 use Rattle.plans.specs.Places.{at}
-use Rattle.solver.specs.Residual.{node, moving}
+use Rattle.solver.specs.Residual.{node}
 use Rattle.solver.specs.Search.{nodes}
-use Rattle.solver.specs.Soft.{soft_kind, softened}
+use Rattle.solver.specs.Soft.{soft_kind}
 use Rattle.solver.specs.Held.{posed_by, memory_of}
 use Rattle.solver.proofs.Beginning.{read_old}
 use Rattle.solver.proofs.graph.Residual.stays_by.Goals as goal
@@ -24,7 +24,6 @@ returns-clause-value g c =
     let head : c.node-2.result ≡ node x (B.class b) = c.node-2.ensures.is ∙ ap (node x) at_book.class in
     let tail-in : node y (B.class b) < nodes = omega (arith, c.node.ensures.within, tail) in
     let head_in : node x (B.class b) < nodes = omega (arith, c.node-2.ensures.within, head) in
-    let cost : c.sum-cost.result ≡ moving (soft_kind K) (softened B) b y x = c.sum-cost.ensures ∙ ap₂ (soft_kind K).plus c.soft_quote.ensures c.requires.leaving in
     let from = read_old K m m c.node.result (node y (B.class b)) c.read.result refl tail-in tail t.read in
     let to = read_old K m _ c.node-2.result (node x (B.class b)) c.read-2.result t.same head_in head r.read in
-    c.is_le.ensures ∙ ap is_le (c.compare.ensures ∙ ap₂ (soft_kind K).cmp to (c.sum-most.ensures ∙ ap₂ (soft_kind K).plus from cost))
+    c.is_le.ensures ∙ ap is_le (c.compare.ensures ∙ ap₂ (soft_kind K).cmp to (c.sum-most.ensures ∙ ap₂ (soft_kind K).plus from c.move_cost-cost.ensures))
