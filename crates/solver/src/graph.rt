@@ -30,6 +30,21 @@ pub(crate) struct Residual<'a, S: Source> {
     ghost sound: { Sound S.Quote.Amount.kind (posed_by S.Source S.Quote.Amount.kind setting) } by { Prim.hlevel props },
 }
 
+impl<'a, S: Source> Graph<'a, S> {
+    // The residual graph of a state.
+    pub(crate) fn residual_of<'b>(&self, state: &'b State) -> Residual<'b, S>
+    where
+        'a: 'b,
+        ensures setting { result.setting ≡ self.now.setting }
+        ensures state { result.state.now ≡ state.now }
+    {
+        Residual {
+            setting: self.setting,
+            state,
+        }
+    }
+}
+
 impl<'a, S: Source> Residual<'a, S> {
     // The rise at a spot.
     pub(crate) fn rise_at(&self, spot: Spot) -> Ranked<Money, S::Quote>

@@ -29,10 +29,7 @@ impl<'a, S: Source> Graph<'a, S> {
         ensures shown { ShownIn S.Quote.Amount.kind (posed_by S.Source S.Quote.Amount.kind self.now.setting) state.new (old_of S.Quote.Amount.kind (memory_of labels.new)) }
         ensures words { words_of state.new ≡ slice_set (words_of state.old) book into }
     {
-        let residual = Residual {
-            setting: self.setting,
-            state: &*state,
-        };
+        let residual = self.residual_of(&*state);
         if residual.stays(labels, book, into) {
             state.widen(book, into);
             return;

@@ -8,7 +8,7 @@ ghost use Rattle.solver.specs.Held.{memory_of, old_of, word_at, posed_by, ShownI
 ghost use Rattle.solver.specs.Solutions.{SolutionRight, SolvedIn};
 ghost use Rattle.solver.specs.States.{words_of};
 
-use crate::graph::{Graph, Residual};
+use crate::graph::Graph;
 use crate::labels::{Labels, clear_all};
 use crate::open_words::open_words;
 use crate::state::State;
@@ -40,17 +40,9 @@ impl<'a, S: Source> Graph<'a, S> {
         ensures { MatchOption result (stranded (S.Source.count self.now.setting.source.now) (S.Source.weeks self.now.setting.source.now) (S.Source.table self.now.setting.source.now) ≡ true) (λ s. SolvedIn S.Quote.Amount.kind (posed_by S.Source S.Quote.Amount.kind self.now.setting) s (old_of S.Quote.Amount.kind (memory_of labels.new))) }
     {
         let mut state = self.first_state(words)?;
-        let first = Residual {
-            setting: self.setting,
-            state: &state,
-        };
-        first.first_labels(labels);
+        self.residual_of(&state).first_labels(labels);
         self.widen_all(&mut state, labels, words);
-        let last = Residual {
-            setting: self.setting,
-            state: &state,
-        };
-        last.refresh(labels);
+        self.residual_of(&state).refresh(labels);
         Some(state)
     }
 }

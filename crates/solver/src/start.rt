@@ -76,11 +76,7 @@ impl<'a, S: Source> Graph<'a, S> {
     {
         let mut state = State::empty();
         for (book, word) in words[..self.setting.source.books()].iter().enumerate() {
-            let residual = Residual {
-                setting: self.setting,
-                state: &state,
-            };
-            let best = residual.cheapest(*word, book)?;
+            let best = self.residual_of(&state).cheapest(*word, book)?;
             place(&mut state, self.setting.roster, book, best.place);
         }
         Some(state)
