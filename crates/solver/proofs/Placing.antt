@@ -54,6 +54,10 @@ module _ {V : Type 0} (source : Meaning V) (roster : Roster) where
     counts = λ w c lw lc. ap (λ l. at l (node w c)) counts ∙ get_or_same 0 128 (node w c);
   }
 
+  -- every book is at one of the weekends, also before it is sent
+  pub within_none : 1 ≤ source.weekends → (s : State) → sent_of s ≡ replicate 120 0 → (b : ℕ) → at (sent_of s) b < source.weekends
+  within_none some s sent b = omega (arith, some, ap (λ l. at l b) sent ∙ get_or_same 0 120 b)
+
   module _ (n : ℕ) (s : State) (before : Placed source roster n s) (w₀ : ℕ) where
     -- a count is at most the number of books
     pub placed_room : n ≤ 120 → w₀ < 16 → (c : ℕ) → c < 8 → at s.counts (node w₀ c) ≤ 120
@@ -69,6 +73,12 @@ module _ {V : Type 0} (source : Meaning V) (roster : Roster) where
       only : (t : Bool) → cond t true false ≡ t
       only true = refl
       only false = refl
+
+      pub within_more : w₀ < source.weekends → ((b : ℕ) → at (sent_of s) b < source.weekends) → (b : ℕ) → at (sent_of t) b < source.weekends
+      within_more known within b = ⊎_elim
+          (λ (q : b ≡ n). omega (arith, known, sent_here, ap (at (sent_of t)) q))
+          (λ (d : b ≡ n → ⊥). omega (arith, sent_other b d, within b))
+          (cases_eq b n)
 
       word_here : (x : ℕ) → word_at (words_of t) n x ≡ eqb x w₀
       word_here x =

@@ -99,7 +99,6 @@ impl<'a, S: Source> Residual<'a, S> {
         leaving: Ranked<Money, S::Quote>,
     )
         requires book { book < S.Source.count self.now.setting.source.now }
-        requires sent { at (sent_of self.now.state.now) book < S.Source.weeks self.now.setting.source.now }
         requires weekend { weekend < S.Source.weeks self.now.setting.source.now }
         requires allowed { bit_at (slice_index (words_of self.now.state.now) book) weekend ≡ true }
         requires leaving { leaving ≡ (soft_kind S.Quote.Amount.kind).minus (or_none (soft_kind S.Quote.Amount.kind) (behind (S.Source.table self.now.setting.source.now book (at (sent_of self.now.state.now) book)))) }
@@ -115,8 +114,7 @@ impl<'a, S: Source> Residual<'a, S> {
 
     // The moves of a book to the weekends of its word.
     fn take_moves_of(&self, labels: &mut Labels<'_, S::Quote>, book: usize)
-        requires book { book < S.Source.count self.now.setting.source.now }
-        requires sent { at (sent_of self.now.state.now) book < S.Source.weeks self.now.setting.source.now }
+        requires { book < S.Source.count self.now.setting.source.now }
         ensures { Relaxes S.Quote.Amount.kind (posed_by S.Source S.Quote.Amount.kind self.now.setting) self.now.state.now (memory_of labels.old) (memory_of labels.new) (the_node (at (sent_of self.now.state.now) book) (at self.now.setting.roster.now.homes book)) (129 + book * 16) (129 + (book + 1) * 16) }
     {
         let word = self.state.word_of(book);

@@ -46,7 +46,6 @@ impl<'a, S: Source> Residual<'a, S> {
         leaving: Ranked<Money, S::Quote>,
     ) -> bool
         requires book { book < S.Source.count self.now.setting.source.now }
-        requires sent { at (sent_of self.now.state.now) book < S.Source.weeks self.now.setting.source.now }
         requires weekend { weekend < S.Source.weeks self.now.setting.source.now }
         requires leaving { leaving ≡ (soft_kind S.Quote.Amount.kind).minus (or_none (soft_kind S.Quote.Amount.kind) (behind (S.Source.table self.now.setting.source.now book (at (sent_of self.now.state.now) book)))) }
         ensures value { result ≡ stays_by S.Quote.Amount.kind (posed_by S.Source S.Quote.Amount.kind self.now.setting) self.now.state.now (old_of S.Quote.Amount.kind (memory_of labels.old)) book weekend }
@@ -62,8 +61,7 @@ impl<'a, S: Source> Residual<'a, S> {
 
     // May the book stay where it is, and the labels stay as they are, where it may go to the weekends of the word `into`?
     pub(crate) fn stays(&self, labels: &mut Labels<'_, S::Quote>, book: usize, into: u16) -> bool
-        requires book { book < S.Source.count self.now.setting.source.now }
-        requires sent { at (sent_of self.now.state.now) book < S.Source.weeks self.now.setting.source.now }
+        requires { book < S.Source.count self.now.setting.source.now }
         ensures stays { result ≡ true → Stays S.Quote.Amount.kind (posed_by S.Source S.Quote.Amount.kind self.now.setting) self.now.state.now (old_of S.Quote.Amount.kind (memory_of labels.old)) book into }
         ensures same { memory_of labels.new ≡ memory_of labels.old }
     {

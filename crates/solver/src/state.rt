@@ -27,6 +27,7 @@ impl State {
 
     // Nothing is counted, and no book may go anywhere.
     pub(crate) fn empty() -> Self
+        ensures sent { sent_of result ≡ replicate 120 0 }
         ensures words { words_of result ≡ replicate 120 0 }
         ensures counts { result.counts ≡ replicate 128 0 }
     {

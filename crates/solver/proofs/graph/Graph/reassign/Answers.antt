@@ -25,3 +25,6 @@ augment-requires g c =
     let searches = subst₂ (λ t s. Searches K (posed_by g.S.Source K t) s (memory_of c.start_at.new.labels) (memory_of c.search.new.labels)) over.setting over.state c.search.ensures in
     let shown = subst (λ m. ShownIn K B state (old_of K m)) (sym c.if-stays.ensures.same) c.requires.shown in
     walkable g.met.S.Quote.Amount.lawful B c.args.self.now.sound (λ w k _ _. bounds_straight c.args.self.now.setting.bounds.now w k) state (memory_of c.stays.new.labels) (memory_of c.start_at.new.labels) (memory_of c.search.new.labels) c.args.book c.args.into some.0 c.requires.book some.1 some.2 shown c.start_at.ensures searches
+
+pub residual_of-residual-requires : goal.residual_of-residual-requires
+residual_of-residual-requires g c = c.requires.shown.inside.sent

@@ -27,4 +27,4 @@ pub returns-clause-stays : goal.returns-clause-stays
 returns-clause-stays g c _ =
     let B = posed_by g.S.Source g.S.Quote.Amount.kind c.args.self.now.setting in
     let own = ap (bit_at c.args.into) (sym c.weekend_of-from.ensures) ∙ sym c.if-not-has_weekend.ensures in
-    tried_all g.met.S.Quote.Amount.lawful B c.args.self.now.state.now _ c.args.book c.args.into c.loop-weekend.weekend (omega (arith, c.weekends-weekend-end.ensures, c.loop-weekend-test.false)) c.requires.book c.requires.sent own c.loop-weekend.invariant.0
+    tried_all g.met.S.Quote.Amount.lawful B c.args.self.now.state.now _ c.args.book c.args.into c.loop-weekend.weekend (omega (arith, c.weekends-weekend-end.ensures, c.loop-weekend-test.false)) c.requires (c.args.self.now.sent c.args.book c.requires) own c.loop-weekend.invariant.0

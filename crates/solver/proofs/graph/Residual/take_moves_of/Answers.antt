@@ -21,12 +21,12 @@ loop-weekend-preserved g c =
     let i = c.loop-weekend.invariant in
     elim c.if-has_weekend.branch [
       | then-has_weekend y ↦ subst (λ l. Relaxes K B state m (memory_of l) (node (at (sent_of state) b) (B.class b)) (129 + b * 16) (129 + (b * 16 + (x + 1)))) (sym y.labels-is)
-          (of_take L B state b c.requires.book c.requires.sent m m₁ (memory_of y.take_move.new.labels) x i y.take_move.ensures)
+          (of_take L B state b c.requires (c.args.self.now.sent c.args.book c.requires) m m₁ (memory_of y.take_move.new.labels) x i y.take_move.ensures)
       | else-has_weekend y ↦ subst (λ l. Relaxes K B state m (memory_of l) (node (at (sent_of state) b) (B.class b)) (129 + b * 16) (129 + (b * 16 + (x + 1)))) (sym y.labels-is)
-          (of_skip L B state b c.requires.book c.requires.sent m m₁ x i (omega (arith, c.weekends-weekend-end.ensures)) (ap (λ word. bit_at word x) (sym c.word_of-word.ensures) ∙ sym y.if-has_weekend.ensures))
+          (of_skip L B state b c.requires (c.args.self.now.sent c.args.book c.requires) m m₁ x i (omega (arith, c.weekends-weekend-end.ensures)) (ap (λ word. bit_at word x) (sym c.word_of-word.ensures) ∙ sym y.if-has_weekend.ensures))
     ]
 
 pub returns : goal.returns
 returns g c =
     let B = posed_by g.S.Source g.S.Quote.Amount.kind c.args.self.now.setting in
-    of_end g.met.S.Quote.Amount.lawful B c.args.self.now.state.now c.args.book c.requires.book c.requires.sent _ _ c.loop-weekend.weekend c.loop-weekend.invariant (omega (arith, c.weekends-weekend-end.ensures, c.loop-weekend-test.false))
+    of_end g.met.S.Quote.Amount.lawful B c.args.self.now.state.now c.args.book c.requires (c.args.self.now.sent c.args.book c.requires) _ _ c.loop-weekend.weekend c.loop-weekend.invariant (omega (arith, c.weekends-weekend-end.ensures, c.loop-weekend-test.false))
