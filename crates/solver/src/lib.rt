@@ -10,6 +10,7 @@ mod flow_promises;
 mod graph;
 mod labels;
 mod marks;
+mod movers;
 mod network;
 mod nodes;
 mod offers;

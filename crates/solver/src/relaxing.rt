@@ -3,14 +3,15 @@ ghost use Rattle.std.specs.Prelude.{◌≡◌, ◌+◌, ◌*◌, ◌<◌, true, 
 ghost use Rattle.amounts.specs.Least.{or_none};
 ghost use Rattle.plans.specs.Places.{at};
 ghost use Rattle.sources.specs.Tables.{bit_at};
-ghost use Rattle.solver.specs.Soft.{soft_kind, behind, softened};
-ghost use Rattle.solver.specs.Residual.{node as the_node, above as the_above, moving};
+ghost use Rattle.solver.specs.Soft.{soft_kind, behind};
+ghost use Rattle.solver.specs.Residual.{node as the_node, above as the_above};
 ghost use Rattle.solver.specs.Held.{memory_of, posed_by, Relaxes, Stands};
 ghost use Rattle.solver.specs.States.{sent_of, words_of};
 
 use crate::arcs::Arc;
 use crate::graph::Residual;
 use crate::labels::Labels;
+use crate::movers::Mover;
 use crate::network::fall;
 use crate::nodes::{NEW, SINK, Spot};
 use amounts::{Amount, Money, Ranked};
@@ -27,6 +28,22 @@ pub(crate) fn soft_quote<S: Source>(
     Ranked {
         first: Money::zero(),
         second: source.quote(book, weekend).unwrap_or(S::Quote::zero()),
+    }
+}
+
+impl<'a, S: Source> Mover<'a, S> {
+    // The move of the book to another weekend.
+    fn take_move(&self, labels: &mut Labels<'_, S::Quote>, weekend: usize)
+        requires weekend { weekend < S.Source.weeks self.now.residual.now.setting.source.now }
+        requires allowed { bit_at (slice_index (words_of self.now.residual.now.state.now) self.now.book) weekend ≡ true }
+        ensures { Relaxes S.Quote.Amount.kind (posed_by S.Source S.Quote.Amount.kind self.now.residual.now.setting) self.now.residual.now.state.now (memory_of labels.old) (memory_of labels.new) (the_node (at (sent_of self.now.residual.now.state.now) self.now.book) (at self.now.residual.now.setting.roster.now.homes self.now.book)) (129 + (self.now.book * 16 + weekend)) (130 + (self.now.book * 16 + weekend)) }
+    {
+        let residual = self.residual;
+        let from = residual.state.spot_of(residual.setting.roster, self.book);
+        let class = from.class;
+        let label = labels.read(NEW + from.node()).sum(self.cost(weekend));
+        let to = Spot { weekend, class };
+        labels.offer(to.node(), label, Arc::Move(self.book, weekend));
     }
 }
 
@@ -77,41 +94,6 @@ impl<'a, S: Source> Residual<'a, S> {
         }
     }
 
-    // The cost of the move of a book to another weekend; `leaving` is the opposite of its quote where it is.
-    pub(crate) fn move_cost(
-        &self,
-        book: usize,
-        weekend: usize,
-        leaving: Ranked<Money, S::Quote>,
-    ) -> Ranked<Money, S::Quote>
-        requires { leaving ≡ (soft_kind S.Quote.Amount.kind).minus (or_none (soft_kind S.Quote.Amount.kind) (behind (S.Source.table self.now.setting.source.now book (at (sent_of self.now.state.now) book)))) }
-        ensures { result ≡ moving (soft_kind S.Quote.Amount.kind) (softened (posed_by S.Source S.Quote.Amount.kind self.now.setting)) book (at (sent_of self.now.state.now) book) weekend }
-    {
-        soft_quote(self.setting.source, book, weekend).sum(leaving)
-    }
-
-    // The move of a book to another weekend; `leaving` is the opposite of its quote where it is.
-    fn take_move(
-        &self,
-        labels: &mut Labels<'_, S::Quote>,
-        book: usize,
-        weekend: usize,
-        leaving: Ranked<Money, S::Quote>,
-    )
-        requires book { book < S.Source.count self.now.setting.source.now }
-        requires weekend { weekend < S.Source.weeks self.now.setting.source.now }
-        requires allowed { bit_at (slice_index (words_of self.now.state.now) book) weekend ≡ true }
-        requires leaving { leaving ≡ (soft_kind S.Quote.Amount.kind).minus (or_none (soft_kind S.Quote.Amount.kind) (behind (S.Source.table self.now.setting.source.now book (at (sent_of self.now.state.now) book)))) }
-        ensures { Relaxes S.Quote.Amount.kind (posed_by S.Source S.Quote.Amount.kind self.now.setting) self.now.state.now (memory_of labels.old) (memory_of labels.new) (the_node (at (sent_of self.now.state.now) book) (at self.now.setting.roster.now.homes book)) (129 + (book * 16 + weekend)) (130 + (book * 16 + weekend)) }
-    {
-        let from = self.state.spot_of(self.setting.roster, book);
-        let class = from.class;
-        let cost = self.move_cost(book, weekend, leaving);
-        let label = labels.read(NEW + from.node()).sum(cost);
-        let to = Spot { weekend, class };
-        labels.offer(to.node(), label, Arc::Move(book, weekend));
-    }
-
     // The moves of a book to the weekends of its word.
     fn take_moves_of(&self, labels: &mut Labels<'_, S::Quote>, book: usize)
         requires { book < S.Source.count self.now.setting.source.now }
@@ -119,10 +101,14 @@ impl<'a, S: Source> Residual<'a, S> {
     {
         let word = self.state.word_of(book);
         let from = self.state.weekend_of(book);
-        let leaving = soft_quote(self.setting.source, book, from).opposite();
+        let mover = Mover {
+            residual: self,
+            book,
+            leaving: soft_quote(self.setting.source, book, from).opposite(),
+        };
         for weekend in 0..self.setting.source.weekends() {
             if has_weekend(word, weekend) {
-                self.take_move(labels, book, weekend, leaving);
+                mover.take_move(labels, weekend);
             }
         }
     }
