@@ -1,10 +1,9 @@
 // Reading a whole file: its first fault, or what it describes.
 ghost use Rattle.std.specs.Prelude.{◌≡◌, ◌+◌, ◌<◌, ◌≤◌, length, Ok};
 ghost use Rattle.planfile.specs.Progress.{start};
-ghost use Rattle.planfile.specs.Records.{stepped};
 ghost use Rattle.std.specs.List.{slice_get};
 ghost use Rattle.planfile.specs.Laws.{Tells};
-ghost use Rattle.planfile.specs.Reading.{second_number as the_second_number, bound_of as the_bound_of, quote_of as the_quote_of, counts_of, finished, turned, walked, body, sectioned, described, answered, read_file};
+ghost use Rattle.planfile.specs.Reading.{second_number as the_second_number, bound_of as the_bound_of, quote_of as the_quote_of, counts_of, finished, walked, body, sectioned, described, answered, read_file};
 
 use crate::fields::{Price, read_price};
 use crate::progress::{FileKind, Progress, Stage};
