@@ -12,11 +12,6 @@ fn amounts_of(quotes: &[i64]) -> [Money; 1920] {
     array::from_fn(|place| Money::from(quotes.get(place).copied().unwrap_or(0)))
 }
 
-// The first words, and zero behind them.
-fn words_of(open: &[u16]) -> [u16; 120] {
-    array::from_fn(|book| open.get(book).copied().unwrap_or(0))
-}
-
 // The bounds of 16 weekends and 8 classes: lower and upper in turn.
 fn bounds_of(books: usize, pairs: &[u8]) -> Bounds {
     let mut bounds = Bounds::open(books);
@@ -48,8 +43,7 @@ pub extern "C" fn solve_money(
         return 2;
     };
     let amounts = amounts_of(quotes);
-    let words = words_of(words);
-    let source = QuoteTable::new(books, weekends, &amounts, &words);
+    let source = QuoteTable::new(books, weekends, &amounts, words);
     let bounds = bounds_of(books, bounds);
     let setting = Setting {
         source: &source,

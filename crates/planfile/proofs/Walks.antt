@@ -1,18 +1,16 @@
 -- The walk over a file's records, one turn at a time.
-use Rattle.std.proofs.Common.{◌≡◌, ℕ, ◌+◌, ◌-◌, ◌%◌, ◌<◌, ◌≤◌, Bool, true, false, cond, eqb, List, [], ◌∷◌, map, length, get_or, take, drop, Ok, Err, Result, sym, refl, ap, ◌∙◌, subst, arith}
+use Rattle.std.proofs.Common.{◌≡◌, ℕ, ◌+◌, ◌%◌, ◌<◌, ◌≤◌, Bool, true, false, cond, eqb, List, [], ◌∷◌, length, get_or, drop, Ok, Err, Result, sym, refl, ap, ◌∙◌, subst, arith}
 use Rattle.std.proofs.lemmas.List.{at_drop_more, at_drop_all}
 use Rattle.std.proofs.lemmas.Bool.{cond-false}
 use Rattle.std.proofs.lemmas.Bool.Decides.{nat_tests}
-use Rattle.planfile.specs.declared.fields.Price.{Price}
 use Rattle.planfile.specs.declared.progress.FileKind.{FileKind}
 use Rattle.planfile.specs.declared.progress.Stage.{Stage}
 use Rattle.planfile.specs.declared.progress.Progress.{Progress}
 use Rattle.planfile.specs.declared.refusal.Fault.{Fault}
-use Rattle.planfile.specs.Fields.{price_of}
 use Rattle.planfile.specs.Progress.{rank, within, start}
 use Rattle.planfile.specs.Records.{Step, stepped}
 use Rattle.planfile.specs.Description.{Description}
-use Rattle.planfile.specs.Reading.{records, walked, turned, finished, body, sectioned, second_number, bound_of, quote_of, describing, bad_size, read_file}
+use Rattle.planfile.specs.Reading.{records, walked, turned, finished, body, sectioned, describing, bad_size, read_file}
 use Rattle.planfile.proofs.Letters.{Accepted, accepted}
 use Rattle.planfile.proofs.Letters.Accepted.{is_class, is_weekend, is_book, is_bound, is_quote, is_limit}
 
@@ -82,20 +80,6 @@ module _ (k : FileKind) (rs : List (List ℕ)) (i : ℕ) (p : Progress) (inv : w
   pub walk_end : length rs ≡ i → walked k 0 start rs ≡ finished (length rs) p
   unfolding walked
   walk_end e = inv ∙ (at_drop_all (walked k i p) rs i (omega arith) ∙ ap (λ m. finished m p) (sym e))
-
-pub sections_are : (p : Progress) (rs us vs xs ys : List (List ℕ)) (m : Price)
-    → us ≡ take p.classes rs
-    → vs ≡ take p.books (drop (p.classes + p.weekends) rs)
-    → xs ≡ take p.bounds (drop (p.classes + p.weekends + p.books) rs)
-    → ys ≡ take p.quotes (drop (p.classes + p.weekends + p.books + p.bounds) rs)
-    → m ≡ price_of (get_or rs (body p) [])
-    → ◌≡◌ {A = Description} (record { parents = map second_number us; weekends = p.weekends; classes = map second_number vs; bounds = map bound_of xs; quotes = map quote_of ys; limit = m }) (sectioned p rs)
-unfolding sectioned
-sections_are p rs us vs xs ys m e1 e2 e3 e4 e5 = rw (e1, e2, e3, e4, e5) refl
-
--- a part of the records, as the code cuts it out
-pub part_is : (rs : List (List ℕ)) (a b n : ℕ) → b - a ≡ n → take (b - a) (drop a rs) ≡ take n (drop a rs)
-part_is rs a b n e = ap (λ k. take k (drop a rs)) e
 
 pub good_size : (bs : List ℕ) → bad_size bs ≡ false → (0 < length bs) × (length bs % 16 ≡ 0) × (length bs ≤ 35088)
 unfolding bad_size

@@ -26,19 +26,13 @@ wrote_text s t y at e h =
 over_over : (s a b : List ℕ) (at : ℕ) → at + length a ≤ length s → overwritten (overwritten s at a) (at + length a) b ≡ overwritten s at (a ++ b)
 unfolding overwritten
 over_over s a b at h =
-    let d = drop (at + length a) s in
-    let p = take at s ++ a in
-    let y = drop (at + length (a ++ b)) s in
+    let p = take at s ++ a in let d = drop (at + length a) s in
     let l : length (take at s ++ a) ≡ at + length a = simp (length-append, length-take) (omega arith) in
     let n : at + length a + length b ≡ at + length (a ++ b) = simp length-append (omega arith) in
-    let e : (take at s ++ a) ++ drop (at + length a) s ≡ take at s ++ (a ++ drop (at + length a) s) = append_assoc (take at s) a (drop (at + length a) s) in
-    let front : take (at + length a) (take at s ++ (a ++ drop (at + length a) s)) ≡ take at s ++ a = ap (take (at + length a)) (sym e) ∙ take_at p d _ l in
-    let back : drop (at + length a + length b) (take at s ++ (a ++ drop (at + length a) s)) ≡ drop (at + length (a ++ b)) s =
-    ap (drop (at + length a + length b)) (sym e)
-    ∙ (sym (drop-drop (length b) (at + length a) (p ++ d)) ∙ (ap (drop (length b)) (drop_at p d _ l) ∙ (drop-drop (length b) (at + length a) s ∙ ap (λ k. drop k s) n))) in
-    ap (λ x. x ++ (b ++ drop (at + length a + length b) (take at s ++ (a ++ drop (at + length a) s)))) front
-    ∙ (ap (λ z. (take at s ++ a) ++ (b ++ z)) back
-    ∙ (append_assoc (take at s) a (b ++ y) ∙ ap (λ z. take at s ++ z) (sym (append_assoc a b y))))
+    let e : take at s ++ (a ++ d) ≡ p ++ d = sym (append_assoc (take at s) a d) in
+    let x : take (at + length a) (p ++ d) ++ (b ++ drop (at + length a + length b) (p ++ d)) ≡ take at s ++ ((a ++ b) ++ drop (at + length (a ++ b)) s)
+    = grind (arith, append_assoc, n, take_at p d _ l, drop_at p d _ l, drop-drop (length b) (at + length a) (p ++ d), drop-drop (length b) (at + length a) s) in
+    rw e x
 
 pub wrote_then : {s : List ℕ} {at : ℕ} {a s1 : List ℕ} {at1 : ℕ} {b s2 : List ℕ} {at2 : ℕ} → Wrote s at a s1 at1 → Wrote s1 at1 b s2 at2 → Wrote s at (a ++ b) s2 at2
 wrote_then {s} {at} {a} {s1} {at1} {b} {s2} {at2} p q =

@@ -1,5 +1,5 @@
 // The fields of one record that are longer than a byte, and the bytes that must be zero.
-ghost use Rattle.std.specs.Prelude.{◌≡◌, ◌+◌, length, ◌≤◌, ◌==◌, not, drop, position, slice_range, Ok};
+ghost use Rattle.std.specs.Prelude.{◌≡◌, ◌+◌, length, ◌≤◌, ◌==◌, not, position, Ok};
 ghost use Rattle.planfile.specs.Fields.{price_of, spare_bytes as the_spare_bytes};
 ghost use Rattle.planfile.specs.Records.{zeros as the_zeros};
 

@@ -5,7 +5,7 @@ ghost use Rattle.planfile.specs.Lines.{Writes};
 use itoa::Buffer;
 
 // A place on a lent sheet, which moves on with what is written.
-// Stays a slice and a place in it: the sheet is lent, and std's `Write` for a slice does not say which bytes it puts there.
+// Stays a slice and a place in it: tried as std's `Cursor`, whose `write` does not say that it keeps the lent slice ("`cc` met a bound of its own before the equations had joined" the two `ghost_name`s).
 #[derive(Drop)]
 pub(crate) struct Pen<'a> {
     pub(crate) sheet: &'a mut [u8],
@@ -13,6 +13,7 @@ pub(crate) struct Pen<'a> {
 }
 
 impl Pen<'_> {
+    #[tactic(auto, using(crate::proofs::Writes::wrote_text))]
     pub(crate) fn text(&mut self, text: &[u8])
         requires { self.old.at + length text.now ≤ length self.old.sheet.now }
         ensures { Writes self.old text.now self.new }

@@ -28,7 +28,7 @@ impl Stage {
     pub(crate) fn is_within(self, first: Stage, last: Stage) -> bool
         ensures { result ≡ within (rank first) (rank last) self }
     {
-        first <= self && self <= last
+        (first..=last).contains(&self)
     }
 }
 

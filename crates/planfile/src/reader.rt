@@ -1,10 +1,9 @@
 // Reading a whole file: its first fault, or what it describes.
 ghost use Rattle.std.specs.Prelude.{◌≡◌, ◌+◌, ◌<◌, ◌≤◌, length, Ok};
 ghost use Rattle.planfile.specs.Progress.{start};
-ghost use Rattle.planfile.specs.Records.{stepped};
 ghost use Rattle.std.specs.List.{slice_get};
 ghost use Rattle.planfile.specs.Laws.{Tells};
-ghost use Rattle.planfile.specs.Reading.{second_number as the_second_number, bound_of as the_bound_of, quote_of as the_quote_of, counts_of, finished, turned, walked, body, sectioned, described, answered, read_file};
+ghost use Rattle.planfile.specs.Reading.{second_number as the_second_number, bound_of as the_bound_of, quote_of as the_quote_of, counts_of, finished, walked, body, sectioned, described, answered, read_file};
 
 use crate::fields::{Price, read_price};
 use crate::progress::{FileKind, Progress, Stage};
@@ -139,6 +138,7 @@ fn finish(count: usize, so_far: Progress) -> Result<Progress, Fault>
 }
 
 // The first fault of the records, or how many there are of each kind.
+#[tactic(auto, using(crate::proofs::Walks::walk_end, crate::proofs::Walks::walk_on, crate::proofs::Walks::step_placed, crate::proofs::Walks::turn_ok))]
 fn walk(kind: FileKind, rows: &[[u8; 16]]) -> Result<Progress, Fault>
     requires { length rows.now ≤ 2193 }
     ensures { result ≡ walked kind 0 start rows.now }
@@ -172,6 +172,7 @@ fn sections(rows: &[[u8; 16]], end: Progress) -> PlanFile<'_>
 
 // What the file describes, or its first fault: a file is accepted exactly when it is the layout of a proper
 // description, and what is answered is that one, of which there is no other.
+#[tactic(auto, using(crate::proofs::Walks::walked_placed, crate::proofs::Walks::read_err, crate::proofs::Layouts::tells_all), unfolding(crate::specs::Reading::bad_size))]
 pub fn read(kind: FileKind, file: &[u8]) -> Result<PlanFile<'_>, Fault>
     ensures answer { answered result ≡ read_file kind file.now }
     ensures tells { Tells kind file.now (answered result) }

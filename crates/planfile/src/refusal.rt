@@ -24,6 +24,7 @@ pub enum Refusal {
 
 impl Refusal {
     // The number under which the refusal is told.
+    // Stays beside the board's: neither crate stands on the other, and their refusals differ.
     pub fn number(self) -> u8
         ensures { result ≡ number_of self }
     {
@@ -57,6 +58,7 @@ impl Spot {
     }
 
     // The same, told of the file whose record number `index` this is.
+    // Stays a method, and no `From`: it needs the record's number too.
     pub(crate) fn in_record(self, index: usize) -> Fault
         ensures { result ≡ fault_at index self }
     {

@@ -7,7 +7,7 @@ use crate::progress::FileKind;
 use crate::reader::{Counts, read};
 use crate::refusal::{Fault, Refusal};
 
-// Stays put together by items: std's `write!` promises its text where it answers `Ok`, but never that it does, as `report` must.
+// Stays put together by items: tried; std's `write!` promises its text where it answers `Ok`, but never that it does, as `report` must.
 fn write_fault(sheet: &mut [u8], fault: Fault) -> usize
     requires { 16384 ≤ length sheet.old }
     ensures { Wrote sheet.old 0 (fault_line fault) sheet.new result }

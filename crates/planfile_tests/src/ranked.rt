@@ -12,9 +12,7 @@ fn reads_strain_in_a_ranked_file(rt: HostRuntime) -> Result<(), Fail> {
     rows[11] = strained_quote(0, 1, -7, -1);
     rows[16] = strained_limit(i32::MIN, 11);
     ranked(&rt).accepted(&rows)?;
-    let Ok(plan) = read(FileKind::Ranked, rows.as_flattened()) else {
-        return Err(Fail::new("refused"));
-    };
+    let plan = read(FileKind::Ranked, rows.as_flattened()).map_err(|_| Fail::new("refused"))?;
     let first = plan.quote(0).ok_or("no quote")?;
     assert_eq!(rt; (first.price.strain, first.price.money), (7, 4));
     let second = plan.quote(1).ok_or("no quote")?;

@@ -9,9 +9,7 @@ use std::test::Fail;
 fn reads_what_board_z_names(rt: HostRuntime) -> Result<(), Fail> {
     money(&rt).accepted(&board_z())?;
     let rows = board_z();
-    let Ok(plan) = read(FileKind::Money, rows.as_flattened()) else {
-        return Err(Fail::new("refused"));
-    };
+    let plan = read(FileKind::Money, rows.as_flattened()).map_err(|_| Fail::new("refused"))?;
     let counts = plan.counts();
     assert_eq!(rt; (counts.classes, counts.weekends, counts.books), (2, 2, 3));
     assert_eq!(rt; (counts.bounds, counts.quotes), (3, 6));

@@ -19,9 +19,7 @@ fn reports(
 ) -> Result<(), Fail> {
     let before = marked_sheet(rt.alloc(), room)?;
     let mut sheet = marked_sheet(rt.alloc(), room)?;
-    let Ok(length) = report(file, &mut sheet) else {
-        return Err(Fail::new("no report"));
-    };
+    let length = report(file, &mut sheet).map_err(|_| Fail::new("no report"))?;
     assert_eq!(rt; length, text.len());
     assert!(rt; length <= sheet.len() && length <= before.len());
     assert!(rt; &sheet[0..length] == text);
@@ -33,9 +31,7 @@ fn reports(
 fn reports_nothing(rt: &(impl Abort + AllocGlobal), file: &[u8], room: usize) -> Result<(), Fail> {
     let before = marked_sheet(rt.alloc(), room)?;
     let mut sheet = marked_sheet(rt.alloc(), room)?;
-    let Err(fault) = report(file, &mut sheet) else {
-        return Err(Fail::new("a report"));
-    };
+    let fault = report(file, &mut sheet).err().ok_or("a report")?;
     assert_eq!(rt;
         (fault.refusal.number(), fault.record, fault.byte),
         (8, 0, 0)

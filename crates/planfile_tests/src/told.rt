@@ -67,16 +67,14 @@ impl<R: Abort + AllocGlobal> Reader<'_, R> {
     pub(crate) fn accepted(&self, rows: &[[u8; 16]]) -> Result<(), Fail> {
         let file = rows.as_flattened();
         assert_eq!(self.rt; told(self.kind, file), None);
-        let Ok(plan) = read(self.kind, file) else {
-            return Err(Fail::new("refused"));
-        };
+        let plan = read(self.kind, file).map_err(|_| Fail::new("refused"))?;
         let again = records_of(self.rt.alloc(), &plan)?;
         assert!(self.rt; again.as_slice().as_flattened() == file);
         Ok(())
     }
 }
 
-// Stays loops over numbers: a plan hands out its classes, books, bounds and quotes by number alone.
+// Stays loops: what a plan hands out by number may be missing, and `extend` has no `?`.
 fn records_of(heap: Global, plan: &PlanFile<'_>) -> Result<Vec<[u8; 16]>, Fail> {
     let counts = plan.counts();
     let mut rows = Vec::new(heap);

@@ -1,4 +1,4 @@
-use Rattle.std.proofs.Common.{◌≡◌, ℕ, true, false, List, get_or, Ok, Err, Result, sym, ap, ◌∙◌, zero-add, arith, w8, Fits}
+use Rattle.std.proofs.Common.{◌≡◌, ℕ, true, false, List, get_or, Ok, Err, Result, sym, ap, ◌∙◌, arith, w8, Fits}
 use Rattle.std.proofs.lemmas.Bool.{cond-true}
 use Rattle.std.proofs.lemmas.Bool.Decides.{nat_tests}
 use Rattle.planfile.specs.declared.progress.FileKind.{FileKind}
@@ -6,10 +6,9 @@ use Rattle.planfile.specs.declared.reader.PlanFile.{PlanFile}
 use Rattle.planfile.specs.declared.refusal.Fault.{Fault}
 use Rattle.planfile.specs.Laws.{Tells}
 use Rattle.planfile.specs.Refusals.{fault_at}
-use Rattle.planfile.specs.Progress.{start}
 use Rattle.planfile.specs.Reading.{answered, bad_size, read_file}
 use Rattle.planfile.proofs.Layouts.{tells_all}
-use Rattle.planfile.proofs.Walks.{walked_placed, read_ok, read_err}
+use Rattle.planfile.proofs.Walks.{read_ok}
 use Rattle.planfile.proofs.reader.read.Goals as goal
 use Rattle.planfile.proofs.reader.read.Goals.{then-is_empty-via-then-is_empty, then-is_empty-via-else-is_empty+then-not-is_empty, then-is_empty-via-else-is_empty+else-not-is_empty+then-rows-gt2193}
 
@@ -27,19 +26,6 @@ returns-then-is_empty c =
       | then-is_empty-via-else-is_empty+else-not-is_empty+then-rows-gt2193 w ↦ grind (arith, nat_tests)
     ] in
     told c.args.kind c.args.file.now (Err _) c.type_inv.file (ap Err (c.in_record.ensures ∙ ap (fault_at 0) c.at.ensures) ∙ sym (cond-true _ _ _ bad))
-
-pub walk-requires : goal.walk-requires
-walk-requires c = omega arith
-
-pub sections-requires : goal.sections-requires
-sections-requires c = walked_placed c.args.kind 0 start c.in_ok-end.end c.as_chunks.result.0.now (sym c.in_ok-end.ensures) ∙ zero-add _
-
-pub returns-in_err-end : goal.returns-in_err-end
-unfolding bad_size
-returns-in_err-end c =
-    let good : bad_size c.args.file.now ≡ false = grind (arith, nat_tests) in
-    let e = read_err c.args.kind c.args.file.now c.as_chunks.result.0.now good c.as_chunks.ensures.front c.in_err-end.field-0.0 (sym c.in_err-end.ensures) in
-    told c.args.kind c.args.file.now c.from_residual.result c.type_inv.file (grind (arith, e))
 
 pub returns : goal.returns
 unfolding bad_size
