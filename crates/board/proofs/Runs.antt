@@ -1,14 +1,14 @@
 -- Whatever calls are sent to an opened board, the problem that they make of it is sound, and the checks are right about it. Assumes nothing.
-use Rattle.std.proofs.Common.{◌≡◌, ℕ, ◌+◌, ◌*◌, ◌<◌, ◌≤◌, min, Bool, true, false, cond, ◌&&◌, ltb, leb, List, [], ◌∷◌, length, take, set, IfSome, Some, None, Option, refl, arith}
+use Rattle.std.proofs.Common.{◌≡◌, ℕ, ◌+◌, ◌*◌, ◌<◌, ◌≤◌, min, Bool, true, false, cond, ◌&&◌, ltb, leb, List, [], ◌∷◌, length, take, set, IfSome, Some, None, Option, refl, ◌∙◌, arith}
 use Rattle.std.specs.List.{All}
 use Rattle.std.proofs.lemmas.List.Elements.{All-set, All-replicate}
 use Rattle.std.proofs.lemmas.Bool.{and_parts, leb-true, cond_both}
+use Rattle.std.proofs.lemmas.List.{get_or_past}
 use Rattle.amounts.specs.Kind.{Kind, Lawful}
 use Rattle.sources.specs.Strikes.{struck_at, struck_out}
 use Rattle.plans.specs.Bounding.{bound, StraightBound, bounds_go}
-use Rattle.plans.specs.Places.{at}
 use Rattle.plans.specs.Posed.{Meaning}
-use Rattle.plans.specs.Rosters.{Shape, passes, class_fits, parents_fit, padded, roster_of}
+use Rattle.plans.specs.Rosters.{passes, class_fits, parents_fit, padded, roster_of}
 use Rattle.plans.specs.Theorems.{Sound}
 use Rattle.plans.proofs.Padding.{get_or_filled, padded_reads, fitting, homes_low}
 use Rattle.plans.proofs.Straight.{bound_holds}
@@ -16,17 +16,9 @@ use Rattle.board.proofs.Checks.{never_wrong}
 use Rattle.board.specs.declared.refusal.Refusal.{Refusal}
 use Rattle.board.specs.declared.refusal.Refusal.TheVariants.{Heavy}
 use Rattle.board.specs.Standing.{Standing, Step, strike, reopen, pin, roster, bounds, limit, question, free_bounds, with_roster, settled, fault, changed, stepped, played, opened, quote_of, put_by, made_by}
-use Rattle.board.specs.Theorems.{Fair, RunsSound, RunsUncrossed, RunsNeverWrong}
+use Rattle.board.specs.Theorems.{Rostered, Fair, RunsSound, RunsUncrossed, RunsNeverWrong}
 
 -- ---- rosters
--- the classes are 1 to 8, each parent but that of 0 has a smaller number, and each book is in one of the classes
-record Rostered (s : Shape) : Type 0 where
-  pub some : 1 ≤ s.classes
-  pub few : s.classes ≤ 8
-  pub root : at s.parents 0 ≡ 0
-  pub above : (c : ℕ) → 0 < c → c < s.classes → at s.parents c < c
-  pub homed : (b : ℕ) → at s.homes b < s.classes
-
 -- lists that pass the tests of a roster make one
 listed : (ps hs : List ℕ) → parents_fit ps ≡ true → passes (class_fits (length ps)) 0 hs ≡ true → Rostered (record { classes = length ps; parents = padded 8 ps; homes = padded 120 hs })
 listed ps hs e e' =
@@ -36,7 +28,8 @@ listed ps hs e e' =
       few = f.few;
       root = omega (arith, f.low 0, padded_reads 8 ps 0);
       above = λ c h l. omega (arith, f.low c, padded_reads 8 ps c);
-      homed = λ b. omega (arith, homes_low (length ps) hs f.some e' b, padded_reads 120 hs b);
+      homed = λ b l. omega (arith, homes_low (length ps) hs f.some e' b, padded_reads 120 hs b);
+      past = λ c h. padded_reads 8 ps c ∙ get_or_past ps c 0 h;
     }
 
 -- ---- bounds
@@ -103,7 +96,8 @@ module _ {V : Type 0} (K : Kind V) (M : Meaning V) where
       few = omega arith;
       root = refl;
       above = λ c h l. absurd (omega arith);
-      homed = λ b. omega (arith, get_or_filled {X = ℕ} 120 b 0);
+      homed = λ b l. omega (arith, get_or_filled {X = ℕ} 120 b 0);
+      past = λ c h. get_or_filled {X = ℕ} 8 c 0;
     };
     bounded = free_bounded M.books;
     modest = omega (arith, L.none_weight);
@@ -124,7 +118,7 @@ module _ {V : Type 0} (K : Kind V) (M : Meaning V) where
         classes = f.rostered.few;
         root = f.rostered.root;
         above = f.rostered.above;
-        classed = λ b l. f.rostered.homed b;
+        classed = λ b l. f.rostered.homed b (omega (arith, fair.few_books));
         lowers = λ w c lw lc. omega (arith, (small w c).0, (small w c).1);
         uppers = λ w c lw lc. (small w c).1;
         quotes = quotes_light fair st;

@@ -1,11 +1,27 @@
 -- What is shown of every run of calls, over one kind of amounts. Assumes nothing.
-use Rattle.std.specs.Prelude.{ℕ, ◌^◌, ◌<◌, ◌≤◌, true, List, ℤ, IfSome, Ok, ◌≢◌}
+use Rattle.std.specs.Prelude.{◌≡◌, ℕ, ◌^◌, ◌<◌, ◌≤◌, true, List, ℤ, IfSome, Ok, ◌≢◌}
 use Rattle.amounts.specs.Kind.{Kind}
+use Rattle.plans.specs.Places.{at}
 use Rattle.plans.specs.Posed.{Meaning}
 use Rattle.plans.specs.Problem.{Problem, Plan, Possible}
+use Rattle.plans.specs.Rosters.{Shape}
 use Rattle.plans.specs.Theorems.{Sound}
 use Rattle.board.specs.Questions.{toll_check, head_check}
 use Rattle.board.specs.Standing.{Step, made_by}
+
+-- the classes are 1 to 8, class 0 is its own parent, the parent of any other has a smaller number, and each of 120 books is in one of the classes;
+-- what is past the classes has parent 0
+pub record Rostered (s : Shape) : Type 0 where
+  pub some : 1 ≤ s.classes
+  pub few : s.classes ≤ 8
+  pub root : at s.parents 0 ≡ 0
+  pub above : (c : ℕ) → 0 < c → c < s.classes → at s.parents c < c
+  pub homed : (b : ℕ) → b < 120 → at s.homes b < s.classes
+  pub past : (c : ℕ) → s.classes ≤ c → at s.parents c ≡ 0
+
+-- for any weekend and class the lower bound is at most the upper, and that at most 120
+abbrev pub Straight : {V : Type 0} → Problem V → Type 0
+Straight B = (w c : ℕ) → (B.lower w c ≤ B.upper w c) × (B.upper w c ≤ 120)
 
 module _ {V : Type 0} (K : Kind V) where
   -- a source has 1 to 120 books and 1 to 16 weekends, and each quote is light

@@ -3,6 +3,7 @@
 
 mod call;
 mod desk;
+mod keeping;
 mod playing;
 mod questions;
 mod refusal;

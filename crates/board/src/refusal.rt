@@ -25,6 +25,7 @@ pub enum Refusal {
 }
 
 impl Refusal {
+    // Stays beside the plan file's: neither crate stands on the other, and their refusals differ.
     // The number under which the refusal is told.
     pub fn number(self) -> u8
         ensures { result ≡ number_of self }

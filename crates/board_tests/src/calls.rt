@@ -5,12 +5,7 @@ use sources::{QuoteTable, Span, SpanTariff, StrikeLayer};
 
 #[test]
 fn a_pin_strikes_the_others_and_reopening_lifts_one(rt: HostRuntime) {
-    let quotes = [
-        Money::from(1),
-        Money::from(2),
-        Money::from(3),
-        Money::from(4),
-    ];
+    let quotes = [1, 2, 3, 4].map(Money::from);
     let words = [0b1011];
     let mut board = Board::open(QuoteTable::new(1, 4, &quotes, &words));
     assert_eq!(rt; told(board.pin(0, 1)), Ok(()));

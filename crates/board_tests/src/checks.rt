@@ -4,12 +4,7 @@ use amounts::Money;
 #[test]
 fn a_toll_sheet_with_floor_eight(rt: HostRuntime) {
     let mut board = board_z(&rt, 7);
-    let sheet = [
-        Money::from(0),
-        Money::from(0),
-        Money::from(0),
-        Money::from(-4),
-    ];
+    let sheet = [0, 0, 0, -4].map(Money::from);
     assert_eq!(rt; told(board.toll_check(&sheet)), Ok(true));
     assert_eq!(rt; told(board.limit(Money::from(8))), Ok(()));
     assert_eq!(rt; told(board.toll_check(&sheet)), Ok(false));
@@ -18,13 +13,7 @@ fn a_toll_sheet_with_floor_eight(rt: HostRuntime) {
 #[test]
 fn later_places_are_not_read(rt: HostRuntime) {
     let mut board = board_z(&rt, 7);
-    let sheet = [
-        Money::from(0),
-        Money::from(0),
-        Money::from(0),
-        Money::from(-4),
-        Money::from(i64::MIN),
-    ];
+    let sheet = [0, 0, 0, -4, i64::MIN].map(Money::from);
     assert_eq!(rt; told(board.toll_check(&sheet)), Ok(true));
     let heads = [0, 0, 0, 0, 100];
     assert_eq!(rt; told(board.head_check(&heads)), Ok(false));
@@ -34,25 +23,15 @@ fn later_places_are_not_read(rt: HostRuntime) {
 fn sheets_that_are_refused(rt: HostRuntime) {
     let mut board = board_z(&rt, 7);
     assert_eq!(rt;
-        told(board.toll_check(&[Money::from(i64::MIN), Money::from(0), Money::from(0)])),
+        told(board.toll_check(&[i64::MIN, 0, 0].map(Money::from))),
         Err(8)
     );
     assert_eq!(rt;
-        told(board.toll_check(&[
-            Money::from(0),
-            Money::from(0),
-            Money::from(0),
-            Money::from(1_000_000_000_001)
-        ])),
+        told(board.toll_check(&[0, 0, 0, 1_000_000_000_001].map(Money::from))),
         Err(7)
     );
     assert_eq!(rt;
-        told(board.toll_check(&[
-            Money::from(0),
-            Money::from(0),
-            Money::from(0),
-            Money::from(-1_000_000_000_000)
-        ])),
+        told(board.toll_check(&[0, 0, 0, -1_000_000_000_000].map(Money::from))),
         Ok(true)
     );
     assert_eq!(rt; told(board.head_check(&[2, 0, 0])), Err(8));
@@ -77,12 +56,7 @@ fn a_book_without_a_weekend_is_reason_enough(rt: HostRuntime) {
     assert_eq!(rt; told(board.strike(2, 1)), Ok(()));
     assert_eq!(rt; told(board.head_check(&[0, 0, 0, 0])), Ok(true));
     assert_eq!(rt;
-        told(board.toll_check(&[
-            Money::from(0),
-            Money::from(0),
-            Money::from(0),
-            Money::from(0)
-        ])),
+        told(board.toll_check(&[0, 0, 0, 0].map(Money::from))),
         Ok(true)
     );
 }

@@ -26,6 +26,7 @@ pub fn total_of<S: Source>(source: &S, assignment: &[u8]) -> S::Quote
         .fold(S::Quote::zero(), S::Quote::sum)
 }
 
+// Stays a number beside the assignment: a place past its end counts as weekend 0, so it is not its length.
 // How many of the first `books` books are members of the class and sent to the weekend.
 pub fn count_of(
     roster: &Roster,

@@ -87,7 +87,7 @@ impl Roster {
     pub fn member(&self, book: usize, class: usize) -> bool
         ensures { result ≡ climbs (at self.now.parents) (at self.now.homes book) (at self.now.homes book) class }
     {
-        // Stays: `any` over `successors` needs that these end, and of that the check has only a goal of ⊥.
+        // Stays: tried as any over successors: the check asks that these end, with a goal of ⊥.
         let mut at_class = self.class_of(book);
         while at_class != class && at_class != 0 {
             at_class = self.parent(at_class);

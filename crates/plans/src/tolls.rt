@@ -6,6 +6,7 @@ ghost use Rattle.plans.specs.Sheets.{entries};
 use crate::class_tree::Roster;
 use amounts::Amount;
 
+// Stays a sheet beside the number of classes: it is lent with more places than they fill, so its length does not tell it.
 // The entry of a sheet for a weekend and a class, at place weekend * classes + class; zero where the sheet has no such place.
 pub(crate) fn entry<X: Amount>(sheet: &[X], classes: usize, weekend: usize, class: usize) -> X
     ensures { result ≡ entries X.Amount.kind classes sheet.now weekend class }

@@ -1,5 +1,5 @@
 -- The quotes of three books at two weekends, in coins. Assumes nothing.
-use Rattle.std.specs.Prelude.{◌≡◌, ℕ, ◌+◌, ◌*◌, ◌≤◌, Bool, false, cond, ◌&&◌, ◌⊎◌, List, pos, Some, None, Option, nat_lt, slice_index}
+use Rattle.std.specs.Prelude.{◌≡◌, ℕ, ◌+◌, ◌*◌, ◌≤◌, false, cond, ◌&&◌, ◌⊎◌, List, pos, Some, None, Option, nat_lt, slice_index}
 use Rattle.std.proofs.Common.{inl, inr, arith, le-ltb}
 use Rattle.std.proofs.lemmas.Bool.{and_left, and_right, cond-false}
 use Rattle.amounts.specs.declared.money.Money.{Money}

@@ -30,14 +30,10 @@ impl Source for SixQuotes {
     }
 
     fn quote(&self, book: usize, weekend: usize) -> Option<Money> {
-        if book < 3 && weekend < 2 {
-            let coins = self.coins[book * 2 + weekend];
-            if coins > 0 {
-                return Some(Money {
-                    value: i64::from(coins),
-                });
-            }
+        if book >= 3 || weekend >= 2 {
+            return None;
         }
-        None
+        let coins = self.coins[book * 2 + weekend];
+        (coins > 0).then(|| Money::from(i64::from(coins)))
     }
 }

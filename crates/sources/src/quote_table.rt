@@ -21,6 +21,7 @@ pub struct QuoteTable<'a, X> {
 }
 
 impl<'a, X: Amount> QuoteTable<'a, X> {
+    // Stays two numbers: any may be given, and Extent is made of them here.
     pub fn new(books: usize, weekends: usize, quotes: &'a [X], words: &'a [u16]) -> Self
         ensures books { result.extent.books ≡ books }
         ensures weekends { result.extent.weekends ≡ weekends }

@@ -53,6 +53,7 @@ pub struct SpanTariff<'a, X> {
 }
 
 impl<'a, X: Amount> SpanTariff<'a, X> {
+    // Stays two numbers: any may be given, and Extent is made of them here.
     pub fn new(books: usize, weekends: usize, spans: &'a [Span<X>]) -> Self
         ensures books { result.extent.books ≡ books }
         ensures weekends { result.extent.weekends ≡ weekends }
