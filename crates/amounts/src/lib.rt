@@ -36,6 +36,7 @@ pub trait Amount: Copy {
     fn opposite(self) -> Self
         ensures { result ≡ kind.minus self };
 
+    // Stays a function of its own, and no `Ord`: the laws of a kind speak of this order, and each kind owes them for light amounts alone.
     fn compare(self, other: Self) -> Ordering
         ensures { result ≡ kind.cmp self other };
 

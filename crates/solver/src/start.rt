@@ -44,7 +44,7 @@ impl<'a, S: Source> Residual<'a, S> {
         ensures { Found (S.Source.table self.now.setting.source.now book) (S.Source.weeks self.now.setting.source.now) result }
     {
         let mut found = None;
-        // Stays: as a chain with `min_by` it is proved that an open weekend is answered, and not that none is open where none is ("`search`: no proof").
+        // Stays: tried as a chain with `min_by`: it is proved that an open weekend is answered, and not that none is open where none is ("`search`: no proof").
         for weekend in 0..self.setting.source.weekends() {
             if has_weekend(word, weekend) {
                 found = Some(cheaper(found, self.price_weekend(book, weekend)));
