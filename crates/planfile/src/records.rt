@@ -123,7 +123,7 @@ fn take_bound(so_far: Progress, raw: &[u8; 16]) -> Result<Progress, Spot>
     })
 }
 
-#[tactic(auto, unfolding(crate::specs::Records::quote_line))]
+#[tactic(auto, unfolding(crate::specs::Records::quote_line, crate::specs::Progress::before))]
 fn take_quote(kind: FileKind, so_far: Progress, raw: &[u8; 16]) -> Result<Progress, Spot>
     requires { so_far.quotes < 2193 }
     ensures { result ≡ quote_line kind so_far raw.now }
