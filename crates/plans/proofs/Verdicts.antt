@@ -14,7 +14,7 @@ use Rattle.plans.specs.Theorems.{Sound, Light, TollCheckSound, HeadCheckSound}
 use Rattle.plans.proofs.Below.{some_found, some_from}
 use Rattle.plans.proofs.Duality.{total_light, over_limit}
 
-lt_less : (o : Ordering) → is_lt o ≡ true → o ≡ Less
+pub lt_less : (o : Ordering) → is_lt o ≡ true → o ≡ Less
 lt_less Less h = refl
 lt_less Equal h = absurd (false≢true h)
 lt_less Greater h = absurd (false≢true h)

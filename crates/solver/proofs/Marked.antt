@@ -3,6 +3,7 @@ use Rattle.std.proofs.Common.{◌≡◌, ℕ, ◌<◌, ◌≤◌, true, false, l
 use Rattle.std.specs.Option.{unwrap_or}
 use Rattle.std.proofs.lemmas.List.{get_or-set_same, get_or-set_other, get_or_past, get_or-replicate, length-replicate}
 use Rattle.std.proofs.lemmas.Bool.{cases_lt, cases_eq, both_ways}
+use Rattle.plans.proofs.Padding.{get_or_filled}
 use Rattle.solver.specs.declared.marks.Mark.{Mark}
 use Rattle.solver.specs.Search.{nodes}
 use Rattle.solver.specs.Held.{Memory, rank_in, arc_in, marked, seen_of, rank_of, via_of}
@@ -21,19 +22,16 @@ unranked None e = omega arith
 unranked (Some r) e = absurd (both_ways true e refl)
 
 -- where all marks are the same, so are they past the nodes, or there are none
-all_same : {X : Type 0} (n i : ℕ) (x : X) → get_or (replicate n x) i x ≡ x
-all_same n i x = ⊎_elim (λ (l : i < n). get_or-replicate n i x x l) (λ (l : n ≤ i). get_or_past (replicate n x) i x (omega (arith, length-replicate n x))) (cases_lt i n)
-
 module _ {V : Type 0} (m : Memory V) where
   -- no node is marked
   pub none_seen : m.marks ≡ replicate 129 None → (v : ℕ) → seen_of m v ≡ false
-  none_seen e v = ap (λ l. is_some (get_or l v None)) e ∙ ap is_some (all_same 129 v None)
+  none_seen e v = ap (λ l. is_some (get_or l v None)) e ∙ ap is_some (get_or_filled 129 v None)
 
   pub none_ranked : m.marks ≡ replicate 129 None → (v : ℕ) → rank_of m v ≡ nodes
-  none_ranked e v = ap (λ l. rank_in (get_or l v None)) e ∙ ap rank_in (all_same 129 v None)
+  none_ranked e v = ap (λ l. rank_in (get_or l v None)) e ∙ ap rank_in (get_or_filled 129 v None)
 
   pub none_reached : m.marks ≡ replicate 129 None → (v : ℕ) → via_of m v ≡ None
-  none_reached e v = ap (λ l. arc_in (get_or l v None)) e ∙ ap arc_in (all_same 129 v None)
+  none_reached e v = ap (λ l. arc_in (get_or l v None)) e ∙ ap arc_in (get_or_filled 129 v None)
 
   -- only a node can be marked
   pub seen_within : length m.marks ≡ 129 → (v : ℕ) → seen_of m v ≡ true → v < nodes

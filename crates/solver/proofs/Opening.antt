@@ -1,5 +1,5 @@
 -- Words of open weekends, weekend by weekend and book by book. Assumes nothing.
-use Rattle.std.proofs.Common.{◌≡◌, ℕ, zero, suc, ◌+◌, ◌^◌, ◌<◌, ◌≤◌, true, false, ◌&&◌, eqb, ltb, get_or, replicate, is_some, Option, sym, refl, ap, ◌∙◌, ⊎_elim, arith}
+use Rattle.std.proofs.Common.{◌≡◌, ℕ, ◌+◌, ◌^◌, ◌<◌, ◌≤◌, true, false, ◌&&◌, eqb, ltb, is_some, Option, sym, ap, ◌∙◌, ⊎_elim, arith}
 use lib.Bits.{bit_or}
 use Rattle.std.proofs.lemmas.Bool.{cases_eq, cases_lt, lt-ltb, le-ltb, eq-eqb, ne_eqb, and_from, and_right, cond-true, cond-false}
 use Rattle.sources.specs.Tables.{bit_at}
@@ -34,9 +34,3 @@ module _ {V : Type 0} (row : ℕ → Option V) (n word : ℕ) (before : (w : ℕ
       (λ (e : w ≡ n). cond-true (eqb w n) true (bit_at word w) (eq-eqb w n e) ∙ sym (and_from (ltb w (n + 1)) (is_some (row w)) (lt-ltb w (n + 1) (omega arith)) (here w e ∙ sym opened)))
       (λ (d : w ≡ n → ⊥). cond-false (eqb w n) true (bit_at word w) (ne_eqb w n d) ∙ other_bit w d)
       (cases_eq w n)
-
--- every place of a list of equals
-pub get_or_same : {X : Type 0} (x : X) (n i : ℕ) → get_or (replicate n x) i x ≡ x
-get_or_same x zero i = refl
-get_or_same x (suc n) zero = refl
-get_or_same x (suc n) (suc i) = get_or_same x n i

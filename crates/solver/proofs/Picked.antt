@@ -1,22 +1,18 @@
 -- The node with the least key, as the code finds it: node by node. Assumes nothing.
-use Rattle.std.proofs.Common.{◌≡◌, ℕ, ◌+◌, ◌*◌, ◌^◌, ◌<◌, ◌≤◌, Bool, true, false, cond, Some, None, Option, Ordering, Less, Equal, Greater, sym, refl, ap, ◌∙◌, subst, inl, inr, arith, below_more, MatchOption}
+use Rattle.std.proofs.Common.{◌≡◌, ℕ, ◌+◌, ◌*◌, ◌^◌, ◌<◌, ◌≤◌, Bool, true, false, cond, Some, None, Option, Ordering, Less, sym, refl, ap, ◌∙◌, subst, inl, inr, arith, below_more, MatchOption}
 use Rattle.std.specs.Ordering.{is_lt}
 use Rattle.std.proofs.lemmas.Bool.{both_ways}
 use Rattle.amounts.specs.declared.money.Money.{Money}
 use Rattle.amounts.specs.declared.ranked.Ranked.{Ranked}
 use Rattle.amounts.specs.Kind.{Kind, Lawful, law_limit, AtMost}
 use Rattle.amounts.proofs.Order.{at_most_trans, at_most_unless_less}
+use Rattle.plans.proofs.Verdicts.{lt_less}
 use Rattle.solver.specs.declared.choices.Choice.{Choice}
 use Rattle.solver.specs.Search.{nodes}
 use Rattle.solver.specs.Soft.{soft_kind}
 use Rattle.solver.specs.Choosing.{cheaper}
 use Rattle.solver.specs.Held.{Memory, old_of, new_of, open_of, key_of, LightNodes, NoneOpen, NearestOpen}
 use Rattle.solver.proofs.Soft.{soft_lawful}
-
-pub less_is : (o : Ordering) → is_lt o ≡ true → o ≡ Less
-less_is Less e = refl
-less_is Equal e = absurd (both_ways false refl e)
-less_is Greater e = absurd (both_ways false refl e)
 
 pub less_was : (o : Ordering) → is_lt o ≡ false → o ≡ Less → ⊥
 less_was o e l = both_ways (is_lt o) e (ap is_lt l)
@@ -70,7 +66,7 @@ module _ {V : Type 0} {K : Kind V} (L : Lawful K) (m : Memory V) where
     key = q ∙ ap (key_of K m) (sym n);
     least = λ old new. below_more (λ v. open_of m v ≡ true → AtMost (soft_kind K) more.cost (key_of K m v)) i
         (λ v l o. at_most_trans (soft_lawful L) more.cost best.cost (key_of K m v)
-        (omega (arith, ap (soft_kind K).weight q, key_light old new i, ap (soft_kind K).weight s.key, key_light old new best.place, key_light old new v)) (inl (less_is _ less)) (s.least old new v l o)) (λ _. inr q);
+        (omega (arith, ap (soft_kind K).weight q, key_light old new i, ap (soft_kind K).weight s.key, key_light old new best.place, key_light old new v)) (inl (lt_less _ less)) (s.least old new v l o)) (λ _. inr q);
   }
 
   scan_worse : (i : ℕ) (best more : Choice (Ranked Money V)) → Best K m i best → more.cost ≡ key_of K m i → is_lt ((soft_kind K).cmp more.cost best.cost) ≡ false → Best K m (i + 1) best

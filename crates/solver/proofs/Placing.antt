@@ -19,7 +19,7 @@ use Rattle.solver.specs.Choosing.{cheaper}
 use Rattle.solver.specs.Residual.{node}
 use Rattle.solver.specs.Held.{word_at}
 use Rattle.solver.specs.Starting.{Found, Placed}
-use Rattle.solver.proofs.Opening.{get_or_same}
+use Rattle.plans.proofs.Padding.{get_or_filled}
 use Rattle.solver.proofs.Stated.{sent_long, words_long}
 use Rattle.solver.specs.States.{sent_of, words_of}
 
@@ -49,14 +49,14 @@ module _ {V : Type 0} (source : Meaning V) (roster : Roster) where
   placed_none s words counts = record {
     sent = λ b l. absurd (omega arith);
     meets = λ b l. absurd (omega arith);
-    fixed = λ b x e. absurd (both_ways (word_at (words_of s) b x) (ap (λ words. word_at words b x) words ∙ ap (λ word. bit_at word x) (get_or_same 0 120 b) ∙ bit_none x) e);
+    fixed = λ b x e. absurd (both_ways (word_at (words_of s) b x) (ap (λ words. word_at words b x) words ∙ ap (λ word. bit_at word x) (get_or_filled 120 b 0) ∙ bit_none x) e);
     own = λ b l. absurd (omega arith);
-    counts = λ w c lw lc. ap (λ l. at l (node w c)) counts ∙ get_or_same 0 128 (node w c);
+    counts = λ w c lw lc. ap (λ l. at l (node w c)) counts ∙ get_or_filled 128 (node w c) 0;
   }
 
   -- every book is at one of the weekends, also before it is sent
   pub within_none : 1 ≤ source.weekends → (s : State) → sent_of s ≡ replicate 120 0 → (b : ℕ) → at (sent_of s) b < source.weekends
-  within_none some s sent b = omega (arith, some, ap (λ l. at l b) sent ∙ get_or_same 0 120 b)
+  within_none some s sent b = omega (arith, some, ap (λ l. at l b) sent ∙ get_or_filled 120 b 0)
 
   module _ (n : ℕ) (s : State) (before : Placed source roster n s) (w₀ : ℕ) where
     -- a count is at most the number of books

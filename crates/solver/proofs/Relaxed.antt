@@ -20,7 +20,8 @@ use Rattle.solver.proofs.Soft.{soft_lawful}
 use Rattle.solver.proofs.Begin.{search_steps}
 use Rattle.solver.proofs.Paths.{all_light, offer_light}
 use Rattle.solver.proofs.Banks.{bank_in}
-use Rattle.solver.proofs.Picked.{less_is, less_was}
+use Rattle.plans.proofs.Verdicts.{lt_less}
+use Rattle.solver.proofs.Picked.{less_was}
 use Rattle.solver.proofs.Offering.{takes_settled, takes_unseen, takes_seen}
 use Rattle.solver.specs.States.{sent_of, words_of}
 
@@ -117,7 +118,7 @@ module _ {V : Type 0} {K : Kind V} (L : Lawful K) (B : Problem V) (state : State
       unfolding K'
       unsettled r = ⊎_elim
           (λ (sv : seen_of m v₀ ≡ true). ⊎_elim
-          (λ (e : is_lt (K'.cmp x₀ (new_of K m v₀)) ≡ true). lowers r (takes_seen K m v₀ x₀ r sv ∙ e) (λ _. inl (less_is _ e)))
+          (λ (e : is_lt (K'.cmp x₀ (new_of K m v₀)) ≡ true). lowers r (takes_seen K m v₀ x₀ r sv ∙ e) (λ _. inl (lt_less _ e)))
           (λ (e : is_lt (K'.cmp x₀ (new_of K m v₀)) ≡ false). keeps (takes_seen K m v₀ x₀ r sv ∙ e) sv (at_most_unless_less (soft_lawful L) x₀ (new_of K m v₀) light (less_was _ e)))
           (cases_Bool (is_lt (K'.cmp x₀ (new_of K m v₀)))))
           (λ (sv : seen_of m v₀ ≡ false). lowers r (takes_unseen K m v₀ x₀ r sv) (λ q. absurd (both_ways (seen_of m v₀) sv q)))
