@@ -7,7 +7,7 @@ use crate::nodes::{NEW, NODES};
 use amounts::{Amount, Money, Ranked};
 
 // What stands at a place of a lent sheet.
-// Stays: a rule of the project: the table is lent for writing to each function, also where it is only read.
+// Stays: a rule of the project (docs/DECISIONS.md): the lent sheet is taken for writing also where it is only read; marks, which are not lent, are read by `&self`.
 fn read_at<X: Amount>(sheet: &mut [X], place: usize) -> X
     requires { place < length sheet.old }
     ensures read { result ≡ item X.Amount.kind sheet.old place }

@@ -36,7 +36,7 @@ impl<'a, X: Amount> Labels<'a, X> {
         ensures same { memory_of self.new ≡ memory_of self.old }
     {
         let mut found = None;
-        // Stays: the table is lent for writing also where it is read (see labels), so a closure over it would change what it captures, and of such a chain nothing is proved.
+        // Stays: the table is lent for writing also where it is read (see labels), so a closure over it would change what it captures, and a chain is no plainer.
         for node in 0..NODES {
             if self.is_open(node) {
                 let cost = self.key_of(node);

@@ -66,7 +66,7 @@ impl<'a, S: Source> Residual<'a, S> {
             book,
             leaving: soft_quote(self.setting.source, book, from).opposite(),
         };
-        // Stays: the table is lent for writing also where it is read (see labels), so a closure over it would change what it captures, and of such a chain nothing is proved.
+        // Stays: the table is lent for writing also where it is read (see labels), so a closure over it would change what it captures, and a chain is no plainer.
         for weekend in 0..self.setting.source.weekends() {
             if has_weekend(into, weekend) && !mover.stays_by(labels, weekend) {
                 return false;
