@@ -6,10 +6,11 @@ use Rattle.amounts.specs.Models.{money, money_kind, integers}
 use Rattle.plans.specs.declared.class_tree.Roster.{Roster}
 use Rattle.plans.specs.declared.bound_table.Bounds.{Bounds}
 use Rattle.plans.specs.Bounding.{StraightBound, bound_at}
+use Rattle.plans.specs.Rosters.{shape}
 use Rattle.plans.specs.Posed.{Meaning, problem}
 use Rattle.plans.specs.Problem.{member, count, total}
 use Rattle.plans.specs.Sheets.{entries, toll_accepts, head_accepts, recounted, heads}
-use Rattle.plans.specs.Theorems.{PosedSound, AssignedIs}
+use Rattle.plans.specs.Theorems.{Rooted, HeldSound, PosedSound, HeldAssigned, AssignedIs}
 use Rattle.plans.proofs.Verdicts.{place_below}
 use Rattle.plans.proofs.Straight.{bound_holds}
 use Rattle.plans.proofs.Rereading.{accepts_same}
@@ -28,23 +29,33 @@ upper_small b w c = (straight_read b w c).1
 lower_small : (b : Bounds) (w c : ℕ) → (bound_at b.table w c).lower ≤ 120
 lower_small b w c = omega (arith, bounds_straight b w c, upper_small b w c)
 
-pub posed_sound : {V : Type 0} (K : Kind V) → PosedSound K
-posed_sound K source roster bounds limit books weekends quotes light = record {
+pub held_sound : {V : Type 0} (K : Kind V) → HeldSound K
+held_sound K source held bounds limit rooted books weekends quotes light = record {
   books = books;
   weekends = weekends;
-  classes = roster.sound.1;
-  root = roster.sound.2;
-  above = roster.sound.3;
-  classed = λ b l. roster.sound.4 b (omega arith);
+  classes = rooted.few;
+  root = rooted.root;
+  above = rooted.above;
+  classed = λ b l. rooted.classed b (omega arith);
   lowers = λ w c lw lc. lower_small bounds w c;
   uppers = λ w c lw lc. upper_small bounds w c;
   quotes = quotes;
   limit = light;
 }
 
-pub assigned_is : {V : Type 0} (K : Kind V) → AssignedIs K
+-- what the type of a roster keeps
+rooted_by : (r : Roster) → Rooted (shape r)
+rooted_by r = let s = r.sound in record { some = s.0; few = s.1; root = s.2; above = s.3; classed = s.4 }
+
+pub posed_sound : {V : Type 0} (K : Kind V) → PosedSound K
+posed_sound K source roster bounds limit = held_sound K source (shape roster) bounds limit (rooted_by roster)
+
+pub held_assigned : {V : Type 0} (K : Kind V) → HeldAssigned K
 unfolding total count member
-assigned_is K source roster bounds limit assignment = (refl, λ w c. refl)
+held_assigned K source held bounds limit assignment = (refl, λ w c. refl)
+
+pub assigned_is : {V : Type 0} (K : Kind V) → AssignedIs K
+assigned_is K source roster = held_assigned K source (shape roster)
 
 -- the toll check in coins says what the head check says
 pub heads_agree : {V : Type 0} (source : Meaning V) (roster : Roster) (bounds : Bounds) (limit : V) (coins : List Money) (sheet : List ℤ) → source.books ≤ 120 → source.weekends ≤ 16 →

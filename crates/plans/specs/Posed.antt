@@ -9,6 +9,7 @@ use Rattle.plans.specs.declared.bound_table.Bounds.{Bounds}
 use Rattle.plans.specs.declared.setting.Setting.{Setting}
 use Rattle.plans.specs.Places.{at}
 use Rattle.plans.specs.Bounding.{bound_at}
+use Rattle.plans.specs.Rosters.{Shape, shape}
 use Rattle.plans.specs.Problem.{Problem, climbs}
 use Rattle.plans.specs.Sheets.{upward, entries, ceiling_of}
 
@@ -22,19 +23,23 @@ pub record Meaning (V : Type 0) : Type 0 where
 abbrev pub meaning : {S V : Type 0} → Ghosts S V → S → Meaning V
 meaning source s = record { books = source.count s; weekends = source.weeks s; quote = source.table s }
 
--- the problem that they put together
-abbrev pub problem : {V : Type 0} → Meaning V → Roster → Bounds → V → Problem V
-problem source roster bounds limit = record {
+-- the problem that they put together with classes as lists keep them: what stands behind the parents in use is no class, and may be anything
+abbrev pub problem_held : {V : Type 0} → Meaning V → Shape → Bounds → V → Problem V
+problem_held source held bounds limit = record {
   books = source.books;
   weekends = source.weekends;
-  classes = roster.classes;
-  parent = at roster.parents;
-  class = at roster.homes;
+  classes = held.classes;
+  parent = at held.parents;
+  class = at held.homes;
   lower = λ w c. (bound_at bounds.table w c).lower;
   upper = λ w c. (bound_at bounds.table w c).upper;
   quote = source.quote;
   limit = limit;
 }
+
+-- the same with a roster
+abbrev pub problem : {V : Type 0} → Meaning V → Roster → Bounds → V → Problem V
+problem source roster bounds limit = problem_held source (shape roster) bounds limit
 
 -- the problem that a setting puts, with a limit
 abbrev pub put : {S V : Type 0} → Ghosts S V → Setting S → V → Problem V
@@ -58,5 +63,9 @@ abbrev pub is_member : Roster → ℕ → ℕ → Bool
 is_member roster b c = climbs (at roster.parents) (at roster.homes b) (at roster.homes b) c
 
 -- how many of the first books are members of the class and sent to the weekend
+abbrev pub held_count : Shape → ℕ → List ℕ → ℕ → ℕ → ℕ
+held_count held books assignment w c = tally books (λ b. (at assignment b == w) && climbs (at held.parents) (at held.homes b) (at held.homes b) c)
+
+-- the same of a roster
 abbrev pub assignment_count : Roster → ℕ → List ℕ → ℕ → ℕ → ℕ
 assignment_count roster books assignment w c = tally books (λ b. (at assignment b == w) && is_member roster b c)

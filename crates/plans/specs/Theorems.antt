@@ -5,10 +5,19 @@ use Rattle.amounts.specs.Sums.{sum_below, table_sum, copies, item}
 use Rattle.plans.specs.declared.class_tree.Roster.{Roster}
 use Rattle.plans.specs.declared.bound_table.Bounds.{Bounds}
 use Rattle.plans.specs.Places.{at}
-use Rattle.plans.specs.Posed.{Meaning, problem, assignment_total, assignment_count}
+use Rattle.plans.specs.Rosters.{Shape}
+use Rattle.plans.specs.Posed.{Meaning, problem_held, problem, assignment_total, held_count, assignment_count}
 use Rattle.plans.specs.Problem.{Problem, Plan, NoPlan, member, iterated, count, is_open, total, Within, Possible, Kept, Least, Dear}
 use Rattle.plans.specs.Sheets.{toll, cost, ceiling, floor, toll_accepts, head_accepts}
 use Rattle.plans.specs.Trials.{is_plan, is_within, kept_at, best_answer, best, no_plan, dear}
+
+-- one to eight classes: class 0 is its own parent, the parent of each other has a smaller number, and every book is in one of them
+pub record Rooted (held : Shape) : Type 0 where
+  pub some : 1 ≤ held.classes
+  pub few : held.classes ≤ 8
+  pub root : at held.parents 0 ≡ 0
+  pub above : (c : ℕ) → 0 < c → c < held.classes → at held.parents c < c
+  pub classed : (b : ℕ) → b < 120 → at held.homes b < held.classes
 
 -- each of two statements gives the other
 abbrev pub Iff : Type 0 → Type 0 → Type 0
@@ -36,17 +45,31 @@ module _ {V : Type 0} (K : Kind V) where
   abbrev pub LightSheet : Problem V → List V → Type 0
   LightSheet B sheet = (i : ℕ) → i < B.weekends * B.classes → K.weight (item K sheet i) ≤ 10 ^ 12
 
-  -- what a source, a roster, bounds and a limit put is sound: the numbers of rosters and bounds are in range by their types
+  -- what a source, classes, bounds and a limit put is sound. Of the classes this asks just what a roster has to keep of those that are there
+  abbrev pub HeldSound : Type 0
+  HeldSound = (source : Meaning V) (held : Shape) (bounds : Bounds) (limit : V) → Rooted held → source.books ≤ 120 → source.weekends ≤ 16 →
+      ((b w : ℕ) → b < source.books → w < source.weekends → IfSome (source.quote b w) (λ x. K.weight x ≤ 10 ^ 9)) → K.weight limit ≤ 10 ^ 12 →
+      Sound (problem_held source held bounds limit)
+
+  -- the same of a roster: the numbers of rosters and bounds are in range by their types
   abbrev pub PosedSound : Type 0
   PosedSound = (source : Meaning V) (roster : Roster) (bounds : Bounds) (limit : V) → source.books ≤ 120 → source.weekends ≤ 16 →
       ((b w : ℕ) → b < source.books → w < source.weekends → IfSome (source.quote b w) (λ x. K.weight x ≤ 10 ^ 9)) → K.weight limit ≤ 10 ^ 12 →
       Sound (problem source roster bounds limit)
 
-  -- and no lower bound of it is above its upper bound
+  -- and no lower bound of it is above its upper bound, whatever the classes
+  abbrev pub HeldStraight : Type 0
+  HeldStraight = (source : Meaning V) (held : Shape) (bounds : Bounds) (limit : V) (w c : ℕ) → (problem_held source held bounds limit).lower w c ≤ (problem_held source held bounds limit).upper w c
+
   abbrev pub PosedStraight : Type 0
   PosedStraight = (source : Meaning V) (roster : Roster) (bounds : Bounds) (limit : V) (w c : ℕ) → (problem source roster bounds limit).lower w c ≤ (problem source roster bounds limit).upper w c
 
   -- what is added up and counted for a list of weekends is the total and the counts of that assignment
+  abbrev pub HeldAssigned : Type 0
+  HeldAssigned = (source : Meaning V) (held : Shape) (bounds : Bounds) (limit : V) (assignment : List ℕ) →
+      (total K (problem_held source held bounds limit) (at assignment) ≡ assignment_total K source assignment)
+      × ((w c : ℕ) → count (problem_held source held bounds limit) (at assignment) w c ≡ held_count held source.books assignment w c)
+
   abbrev pub AssignedIs : Type 0
   AssignedIs = (source : Meaning V) (roster : Roster) (bounds : Bounds) (limit : V) (assignment : List ℕ) →
       (total K (problem source roster bounds limit) (at assignment) ≡ assignment_total K source assignment)

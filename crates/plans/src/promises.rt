@@ -2,7 +2,7 @@
 ghost use Rattle.std.specs.Prelude.{ℕ, List};
 ghost use Rattle.plans.specs.Problem.{Problem};
 ghost use Rattle.plans.specs.Rosters.{RosterRead};
-ghost use Rattle.plans.specs.Theorems.{Sound, PosedSound, PosedStraight, AssignedIs, MemberIs, TollByMembers, DoubleCounting, WeakDuality, StrongDuality, TollCheckSound, HeadCheckSound, PlanIs, WithinIs, KeptIs, BestIs, OneOfThree};
+ghost use Rattle.plans.specs.Theorems.{Sound, PosedSound, PosedStraight, AssignedIs, HeldSound, HeldStraight, HeldAssigned, MemberIs, TollByMembers, DoubleCounting, WeakDuality, StrongDuality, TollCheckSound, HeadCheckSound, PlanIs, WithinIs, KeptIs, BestIs, OneOfThree};
 
 use amounts::Amount;
 
@@ -12,11 +12,14 @@ pub fn rosters_stand()
 {}
 
 // What a source, a roster, bounds and a limit put is a sound problem, if the quotes and the limit are light; its bounds never cross; what `total_of` and `count_of`
-// answer is the total and the count of an assignment there.
+// answer is the total and the count of an assignment there. All three hold as well of classes that only lists keep, in no roster.
 pub fn problems_stand<X: Amount>()
     ensures sound { PosedSound X.Amount.kind }
     ensures straight { PosedStraight X.Amount.kind }
     ensures assigned { AssignedIs X.Amount.kind }
+    ensures held_sound { HeldSound X.Amount.kind }
+    ensures held_straight { HeldStraight X.Amount.kind }
+    ensures held_assigned { HeldAssigned X.Amount.kind }
 {}
 
 // Members are met on the way up the classes; a toll is the sum of the entries for the classes that a book is a member of; and
