@@ -30,14 +30,15 @@ pub(crate) fn clear_all<X: Amount>(sheet: &mut [X])
     sheet.fill_with(|| X::zero());
 }
 
-// Zero at the places of the labels that a search is to find, and behind them.
+// Zero at the places of the labels that a search is to find. A lent sheet may be far longer, and each search begins with this, so what is behind them is left.
 fn clear_new<X: Amount>(sheet: &mut [X])
-    requires { 129 ≤ length sheet.old }
+    requires { 258 ≤ length sheet.old }
     ensures old { (i : ℕ) → i < 129 → item X.Amount.kind sheet.new i ≡ item X.Amount.kind sheet.old i }
-    ensures new { (i : ℕ) → 129 ≤ i → item X.Amount.kind sheet.new i ≡ X.Amount.kind.none }
+    ensures new { (i : ℕ) → 129 ≤ i → i < 258 → item X.Amount.kind sheet.new i ≡ X.Amount.kind.none }
 {
     let (_, new) = sheet.split_at_mut(NEW);
-    clear_all(new);
+    let (found, _) = new.split_at_mut(NODES);
+    clear_all(found);
 }
 
 // A label is an amount behind a number of violations. The first 129 places have the labels that are valid, one for each node, and the next 129 those that a

@@ -24,7 +24,7 @@ pub(crate) fn open_words<S: Source>(source: &S) -> [u16; 120]
     ensures light { (b w : ℕ) → b < S.Source.count source.now → w < S.Source.weeks source.now → IfSome (S.Source.table source.now b w) (λ x. S.Quote.Amount.kind.weight x ≤ 10 ^ 9) }
 {
     let mut words = [0; 120];
-    for (book, word) in words.iter_mut().enumerate() {
+    for (book, word) in words[..source.books()].iter_mut().enumerate() {
         *word = open_word(source, book);
     }
     words
